@@ -1,0 +1,5 @@
+pub mod Bounds
+pub mod Refusals
+pub mod Sets
+pub mod Orders
+pub mod Tables
