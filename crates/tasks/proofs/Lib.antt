@@ -1,1 +1,6 @@
 pub mod Places
+pub mod Same
+pub mod Sets
+pub mod Members
+pub mod Listing
+pub mod Few

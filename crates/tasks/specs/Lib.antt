@@ -2,4 +2,5 @@ pub mod Bounds
 pub mod Refusals
 pub mod Sets
 pub mod Orders
+pub mod Listed
 pub mod Tables

@@ -29,7 +29,12 @@ pub impl Fault for RecordFault as RecordFaultTells {
             RecordFault::Window(task) => (3, *task),
             RecordFault::Section(task) => (4, *task),
         };
-        Refusal { number, layer: Layer::Record, place: task as usize, innermost: number }
+        Refusal {
+            number,
+            layer: Layer::Record,
+            place: task as usize,
+            innermost: number,
+        }
     }
 }
 
@@ -56,7 +61,12 @@ pub impl Fault for EntryFault as EntryFaultTells {
     fn refusal(&self) -> Refusal {
         match self {
             EntryFault::Invalid(fault) => fault.refusal(),
-            EntryFault::Taken(task) => Refusal { number: 5, layer: Layer::Roster, place: *task as usize, innermost: 5 },
+            EntryFault::Taken(task) => Refusal {
+                number: 5,
+                layer: Layer::Roster,
+                place: *task as usize,
+                innermost: 5,
+            },
         }
     }
 }
@@ -71,6 +81,11 @@ pub impl Fault for SpaceFault as SpaceFaultTells {
     ghost tells = { spaceTells };
 
     fn refusal(&self) -> Refusal {
-        Refusal { number: 20, layer: Layer::File, place: self.needed, innermost: 20 }
+        Refusal {
+            number: 20,
+            layer: Layer::File,
+            place: self.needed,
+            innermost: 20,
+        }
     }
 }
