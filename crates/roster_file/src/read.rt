@@ -51,11 +51,7 @@ fn read_order(reader: &mut Reader<'_>, table: &Table) -> Result<Order, FileFault
 {
     let at = reader.at;
     let count = reader.next::<Numbers>()?;
-    let mut numbers = Numbers {
-        order: Order::empty(),
-        complete: true,
-    };
-    reader.section(count, &mut numbers)?;
+    let numbers = reader.section::<Numbers>(count)?;
     if !is_named(&numbers, table) {
         return Err(FileFault::Order(at));
     }
@@ -81,10 +77,7 @@ pub fn read(bytes: &[u8], table: &mut Table, order: &mut Order) -> Result<(), Fi
 {
     let (count, rest) = opening(bytes)?;
     let mut reader = Reader { rest, at: 2 };
-    let mut tasks = Tasks {
-        table: Table::empty(),
-    };
-    reader.section(count, &mut tasks)?;
+    let tasks = reader.section::<Tasks>(count)?;
     let numbers = read_order(&mut reader, &tasks.table)?;
     if !reader.rest.is_empty() {
         return Err(FileFault::Trailing(reader.at));

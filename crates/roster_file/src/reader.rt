@@ -37,15 +37,15 @@ impl<'a> Reader<'a> {
     }
 
     // So many entries of a section of any kind, kept one after the other.
-    pub fn section<S: Section>(&mut self, count: u8, into: &mut S) -> Result<(), FileFault>
-        requires { ⌜ S·Section .holds (now into) [] ⌝ }
-        ensures read { λ r. ⌜ Cases r (λ _. Kept (S·Section .width) (S·Section .spelled) (S·Section .fits) (S·Section .misspelled) (S·Section .holds) (S·Section .rejects) (now (now (self .entry) .rest)) (now (self .entry) .at) count (now (into .exit)) (now (now (self .exit) .rest)) (now (self .exit) .at)) (Stopped (S·Section .width) (S·Section .spelled) (S·Section .fits) (S·Section .misspelled) (S·Section .holds) (S·Section .rejects) (now (now (self .entry) .rest)) (now (self .entry) .at) count) ⌝ }
+    pub fn section<S: Section + Drop>(&mut self, count: u8) -> Result<S, FileFault>
+        ensures { λ r. ⌜ Cases r (λ s. Kept (S·Section .width) (S·Section .spelled) (S·Section .fits) (S·Section .misspelled) (S·Section .holds) (S·Section .rejects) (now (now (self .entry) .rest)) (now (self .entry) .at) count s (now (now (self .exit) .rest)) (now (self .exit) .at)) (Stopped (S·Section .width) (S·Section .spelled) (S·Section .fits) (S·Section .misspelled) (S·Section .holds) (S·Section .rejects) (now (now (self .entry) .rest)) (now (self .entry) .at) count) ⌝ }
     {
+        let mut section = S::start();
         for _kept in 0..count {
             let at = self.at;
             let entry = self.next::<S>()?;
-            into.keep(entry, at)?;
+            section.keep(entry, at)?;
         }
-        Ok(())
+        Ok(section)
     }
 }

@@ -17,7 +17,7 @@ use tasks::row::Row;
 use tasks::table::Table;
 
 // A kind of section: its entry and the entry's width.
-pub(crate) trait Section {
+pub(crate) trait Section: Sized {
     type Entry;
 
     const WIDTH: usize;
@@ -42,6 +42,9 @@ pub(crate) trait Section {
 
     // why the entry at an offset is not kept
     ghost rejects: { Self → Self·Entry → ℕ → FileFault → Type 0 };
+
+    fn start() -> Self
+        ensures { λ r. ⌜ holds r [] ⌝ };
 
     fn decode(bytes: &[u8], offset: usize) -> Result<Self::Entry, FileFault>
         requires whole { ⌜ length (now bytes) ≡ width ⌝ }
@@ -84,6 +87,12 @@ pub(crate) impl Section for Tasks as TasksSection {
 
     fn entry_len() -> usize {
         Self::WIDTH
+    }
+
+    fn start() -> Tasks {
+        Tasks {
+            table: Table::empty(),
+        }
     }
 
     fn decode(bytes: &[u8], offset: usize) -> Result<TaskEntry, FileFault> {
@@ -156,6 +165,13 @@ pub(crate) impl Section for Numbers as NumbersSection {
 
     fn entry_len() -> usize {
         Self::WIDTH
+    }
+
+    fn start() -> Numbers {
+        Numbers {
+            order: Order::empty(),
+            complete: true,
+        }
     }
 
     fn decode(bytes: &[u8], _offset: usize) -> Result<u8, FileFault> {

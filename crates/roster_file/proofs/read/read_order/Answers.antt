@@ -18,27 +18,27 @@ returns-in-Break-count c =
     elim (c .in-Break-count .ensures tt .read) [ inl cut ↦ order-no-count (now (r .rest)) (r .at) t _ (cut .0) (cut .1) | inr bad ↦ absurd (bad .1) ] in
     at-err _ _ (c .from-residual .result) (p .0) (p .1) (subst (OrderRefused (now (r .rest)) (r .at) t) (sym (p .2)) refused)
 
-pub returns-in-Break-section : need.returns-in-Break-section
-returns-in-Break-section c =
+pub returns-in-Break-numbers : need.returns-in-Break-numbers
+returns-in-Break-numbers c =
     let r = c .args .reader .now in
     let t = c .args .table .now in
-    let p = err-from-errBy (c .from-residual-in-Break-section .result) (c .from-residual-in-Break-section .ensures .1) in
+    let p = err-from-errBy (c .from-residual-in-Break-numbers .result) (c .from-residual-in-Break-numbers .ensures .1) in
     let n = c .in-Continue-count .ensures tt .read in
-    let refused = order-cut (now (r .rest)) (now (c .next .last .self .rest)) (c .in-Continue-count .count) (r .at) (c .next .last .self .at) t (c .in-Break-section .field-0 .0) (n .0) (n .2) (c .in-Break-section .ensures tt .read) in
-    at-err _ _ (c .from-residual-in-Break-section .result) (p .0) (p .1) (subst (OrderRefused (now (r .rest)) (r .at) t) (sym (p .2)) refused)
+    let refused = order-cut (now (r .rest)) (now (c .next .last .self .rest)) (c .in-Continue-count .count) (r .at) (c .next .last .self .at) t (c .in-Break-numbers .field-0 .0) (n .0) (n .2) (c .in-Break-numbers .ensures tt) in
+    at-err _ _ (c .from-residual-in-Break-numbers .result) (p .0) (p .1) (subst (OrderRefused (now (r .rest)) (r .at) t) (sym (p .2)) refused)
 
 pub returns-then-not-is-named : need.returns-then-not-is-named
 returns-then-not-is-named c =
     let r = c .args .reader .now in
     let n = c .in-Continue-count .ensures tt .read in
-    let k = c .in-Continue-section .ensures tt .read in
-    order-unnamed (now (r .rest)) (now (c .next .last .self .rest)) (c .in-Continue-count .count) (r .at) (c .next .last .self .at) (c .args .table .now) (c .section .last .into) (now (c .section .last .self .rest)) (c .section .last .self .at) (n .0) (n .2) k
+    let k = c .in-Continue-numbers .ensures tt in
+    order-unnamed (now (r .rest)) (now (c .next .last .self .rest)) (c .in-Continue-count .count) (r .at) (c .next .last .self .at) (c .args .table .now) (c .in-Continue-numbers .numbers) (now (c .section .last .self .rest)) (c .section .last .self .at) (n .0) (n .2) k
     (λ named. clash (sym (c .if-not-is-named .taken) ∙ c .is-named .ensures (k .entries) (k .held) .1 named))
 
 pub returns : need.returns
 returns c =
     let r = c .args .reader .now in
     let n = c .in-Continue-count .ensures tt .read in
-    let k = c .in-Continue-section .ensures tt .read in
-    order-named (now (r .rest)) (now (c .next .last .self .rest)) (c .in-Continue-count .count) (r .at) (c .next .last .self .at) (c .args .table .now) (c .section .last .into) (now (c .section .last .self .rest)) (c .section .last .self .at) (n .0) (n .2) k
+    let k = c .in-Continue-numbers .ensures tt in
+    order-named (now (r .rest)) (now (c .next .last .self .rest)) (c .in-Continue-count .count) (r .at) (c .next .last .self .at) (c .args .table .now) (c .in-Continue-numbers .numbers) (now (c .section .last .self .rest)) (c .section .last .self .at) (n .0) (n .2) k
     (c .is-named .ensures (k .entries) (k .held) .0 (c .if-not-is-named .left))
