@@ -1,19 +1,18 @@
 -- A table is told by the entries that fill it, and each entry stands in its place. Assumes nothing.
-use Prim.Native.Nat.{ℕ, zero, suc, _+_, _*_, _^_, _<_, _≤_}
+use Prim.Native.Nat.{ℕ, _+_}
 use mathlib.Core.Path.{_≡_, refl, sym, ap, _∙_, subst}
-use mathlib.Core.Logic.{_⊎_, inl, inr}
-use mathlib.Core.Bool.{Bool, true, false, cond}
+use mathlib.Core.Logic.{inl, inr}
+use mathlib.Core.Bool.{cond}
 use mathlib.Core.List.{List, [], _∷_, _++_}
 use native.Mathlib.Omega.{arith}
-use lib.Dec.{eqb}
-use lib.ListN.{length, getD}
+use lib.ListN.{getD}
 use Rattle.std.proofs.shelf.Lists.{append-assoc, same-lists, getD-default, getD-past}
 use Rattle.std.proofs.shelf.Tests.{eq-eqb, cases-lt}
 use Rattle.std.specs.Vec.{listOf}
 use Rattle.std.specs.shelf.Lists.{All}
 use Rattle.std.specs.declared.option.Option.{Option}
 use Rattle.std.specs.declared.option.Option.the-variants.{Some, None}
-use Rattle.tasks.specs.Bounds.{Lawful, Numbered, Bounded}
+use Rattle.tasks.specs.Bounds.{Lawful}
 use Rattle.tasks.specs.declared.row.Row.{Row}
 use Rattle.tasks.specs.declared.table.Table.{Table}
 use Rattle.tasks.proofs.Same.{same-table}

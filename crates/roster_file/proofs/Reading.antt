@@ -1,11 +1,10 @@
 -- What the parts of a file say of the whole. Assumes nothing.
-use Prim.Native.Nat.{ℕ, _+_, _*_, _≤_, _<_}
+use Prim.Native.Nat.{ℕ, _+_, _≤_, _<_}
 use mathlib.Core.Path.{_≡_, refl, sym, ap, _∙_, subst}
-use mathlib.Core.Logic.{_⊎_, inl, inr}
-use mathlib.Core.Bool.{Bool}
+use mathlib.Core.Logic.{inl, inr}
 use mathlib.Core.List.{List, [], _∷_, _++_}
 use native.Mathlib.Omega.{arith}
-use lib.ListN.{length, getD, take, drop}
+use lib.ListN.{length, getD, drop}
 use native.Mathlib.Nat.{le-refl}
 use Rattle.std.proofs.shelf.Lists.{nil-from-length, take-all, getD-take, append-nil, drop-more}
 use Rattle.std.specs.Joined.{joined}
@@ -14,8 +13,8 @@ use Rattle.tasks.specs.declared.table.Table.{Table}
 use Rattle.tasks.proofs.Few.{few}
 use Rattle.roster_file.specs.Entries.{taskBytes, taskWidth, TaskFits, NoKind, Holds, NotEntered, KeptNumbers}
 use Rattle.roster_file.specs.Sections.{Kept, Stopped, NextFails}
-use Rattle.roster_file.specs.Layout.{edition, offset, Named, Layout, Begun, Refused, OrderRead, OrderRefused}
-use Rattle.roster_file.specs.declared.section.TaskEntry.{TaskEntry}
+use Rattle.roster_file.specs.Layout.{edition, offset, Named, Layout, Begun, Refused}
+use Rattle.roster_file.specs.OrderSection.{OrderRead, OrderRefused}
 use Rattle.roster_file.specs.declared.section.Tasks.{Tasks}
 use Rattle.roster_file.specs.declared.section.Numbers.{Numbers}
 use Rattle.roster_file.specs.declared.fault.FileFault.{FileFault}
@@ -23,16 +22,16 @@ use Rattle.roster_file.specs.declared.fault.FileFault.the-variants as fault
 
 -- the two kinds of section
 abbrev pub TasksKept : List ℕ → ℕ → ℕ → Tasks → List ℕ → ℕ → Type 0
-TasksKept = Kept taskWidth taskBytes TaskFits NoKind (λ (s : Tasks) es. Holds es (s .table .places)) (λ s. NotEntered (s .table .places))
+TasksKept = Kept taskWidth taskBytes (λ (s : Tasks) es. Holds es (s .table .places))
 
 abbrev pub TasksStopped : List ℕ → ℕ → ℕ → FileFault → Type 0
 TasksStopped = Stopped taskWidth taskBytes TaskFits NoKind (λ (s : Tasks) es. Holds es (s .table .places)) (λ s. NotEntered (s .table .places))
 
 abbrev pub NumbersKept : List ℕ → ℕ → ℕ → Numbers → List ℕ → ℕ → Type 0
-NumbersKept = Kept 1 (λ (n : ℕ). n ∷ []) (λ n. n < 256) (λ _ _ _. ⊥) (λ (s : Numbers). KeptNumbers (take (s .order .len) (s .order .numbers)) (s .complete)) (λ _ _ _ _. ⊥)
+NumbersKept = Kept 1 (λ (n : ℕ). n ∷ []) (λ (s : Numbers). KeptNumbers (listed (s .order)) (s .complete))
 
 abbrev pub NumbersStopped : List ℕ → ℕ → ℕ → FileFault → Type 0
-NumbersStopped = Stopped 1 (λ (n : ℕ). n ∷ []) (λ n. n < 256) (λ _ _ _. ⊥) (λ (s : Numbers). KeptNumbers (take (s .order .len) (s .order .numbers)) (s .complete)) (λ _ _ _ _. ⊥)
+NumbersStopped = Stopped 1 (λ (n : ℕ). n ∷ []) (λ n. n < 256) (λ _ _ _. ⊥) (λ (s : Numbers). KeptNumbers (listed (s .order)) (s .complete)) (λ _ _ _ _. ⊥)
 
 joined-each : (ns : List ℕ) → joined (λ (n : ℕ). n ∷ []) ns ≡ ns
 joined-each [] = refl
@@ -45,7 +44,7 @@ order-no-count bytes at t f l e = inl (inl (nil-from-length bytes (omega arith))
 -- a number is missing
 pub order-cut : (bytes rest : List ℕ) (m at start : ℕ) (t : Table) (f : FileFault) → bytes ≡ m ∷ rest → start ≡ at + 1 → NumbersStopped rest start m f → OrderRefused bytes at t f
 order-cut bytes rest m at start t f e a s = by-way (s .fails) where
-  by-way : NextFails 1 (λ (n : ℕ). n ∷ []) (λ n. n < 256) (λ _ _ _. ⊥) (λ (s : Numbers). KeptNumbers (take (s .order .len) (s .order .numbers)) (s .complete)) (λ _ _ _ _. ⊥) (s .s) (s .left) (s .at) f → OrderRefused bytes at t f
+  by-way : NextFails 1 (λ (n : ℕ). n ∷ []) (λ n. n < 256) (λ _ _ _. ⊥) (λ (s : Numbers). KeptNumbers (listed (s .order)) (s .complete)) (λ _ _ _ _. ⊥) (s .s) (s .left) (s .at) f → OrderRefused bytes at t f
   by-way (inl (l, q)) =
       inl (inr (m, rest, e, omega (arith, s .fewer, s .kept .forward, s .kept .end)), q ∙ ap fault.Cut (omega (arith, s .kept .end, ap length e)))
   by-way (inr (inl (l, n))) = absurd n
@@ -84,7 +83,7 @@ module _ (bytes rest : List ℕ) (count : ℕ) (e : bytes ≡ edition ∷ count 
   next-refused read s left at f l k (inl (w, q)) = subst (Refused bytes) (sym q) (at-end read s left at k, inr (count, k .entries, s .table, left, begun read s left at (omega arith) k, inl (omega (arith, k .counted), w)))
   next-refused read s left at f l k (inr (inl (w, (n, q)))) =
       let here : 2 ≤ getD left 1 0 = subst (λ b. 2 ≤ b) (getD-take taskWidth left 1 0 (omega arith)) n in
-      subst (Refused bytes) (sym q) (count, k .entries, s .table, left, begun read s left at (omega arith) k, omega (arith, k .counted), w, (here, ap (λ m. fault.Kind (m + 1)) (at-offset read s left at k)))
+      subst (Refused bytes) (sym q) (count, k .entries, s .table, left, begun read s left at (omega arith) k, omega (arith, k .counted), w, here, ap (λ m. m + 1) (at-offset read s left at k))
   next-refused read s left at f l k (inr (inr (x, after, q, fit, (g, p, r)))) =
       let before = subst (λ xs. Begun bytes count (k .entries) (s .table) xs) q (begun read s left at (omega arith) k) in
       subst (Refused bytes) (sym p) (count, k .entries, s .table, x, after, before, omega (arith, k .counted), fit, at-offset read s left at k, r)
@@ -98,8 +97,8 @@ module _ (bytes rest : List ℕ) (count : ℕ) (e : bytes ≡ edition ∷ count 
 
     -- the order section fails
     pub order-refused : (f : FileFault) → OrderRefused left at (s .table) f → Refused bytes f
-    order-refused f (inl (inl n, q)) = subst (Refused bytes) (sym q) (at-end count s left at k, inr (count, k .entries, s .table, left, before, inr (inl (k .counted, n))))
-    order-refused f (inl (inr (m, after, p, l), q)) = subst (Refused bytes) (sym q) (at-end count s left at k, inr (count, k .entries, s .table, left, before, inr (inr (m, after, k .counted, p, l))))
+    order-refused f (inl (inl n, q)) = subst (Refused bytes) (sym q) (at-end count s left at k, inr (count, k .entries, s .table, left, before, inr (k .counted, inl n)))
+    order-refused f (inl (inr (m, after, p, l), q)) = subst (Refused bytes) (sym q) (at-end count s left at k, inr (count, k .entries, s .table, left, before, inr (k .counted, inr (m, after, p, l))))
     order-refused f (inr ((order, after, p, n), q)) =
         subst (Refused bytes) (sym q) (count, k .entries, s .table, order, after, subst (λ xs. Begun bytes count (k .entries) (s .table) xs) p before, k .counted, omega (arith, k .forward), n)
 

@@ -1,5 +1,5 @@
 -- Every byte string has one outcome at most: one layout, or one refusal. Assumes nothing.
-use Prim.Native.Nat.{ℕ, zero, suc, _+_, _*_, _<_, _≤_}
+use Prim.Native.Nat.{ℕ, _+_, _<_, _≤_}
 use mathlib.Core.Path.{_≡_, refl, sym, ap, _∙_, subst, subst₃}
 use mathlib.Core.Logic.{_⊎_, inl, inr}
 use mathlib.Core.Bool.{Bool, true, false, cond}
@@ -8,7 +8,7 @@ use native.Mathlib.Omega.{arith}
 use lib.Dec.{eqb}
 use lib.ListN.{length, getD, take, drop, length-append, length-map}
 use native.Mathlib.Nat.{le-refl}
-use Rattle.std.proofs.shelf.Lists.{append-nil, append-cancel-left, take-at, drop-at}
+use Rattle.std.proofs.shelf.Lists.{append-nil, take-at, drop-at}
 use Rattle.std.specs.Joined.{joined}
 use Rattle.std.specs.Vec.{listOf}
 use Rattle.std.specs.Options.{isSome}
@@ -236,10 +236,10 @@ view-refused : (bytes : List ℕ) (f : FileFault) → Refused bytes f → View b
 view-refused bytes fault.Edition n = inl (n, refl)
 view-refused bytes (fault.Cut place) (e, inl q) = inr (inl (q, ap (λ n. Err (fault.Cut n)) e))
 view-refused bytes (fault.Cut place) (e, inr (count, es, t, rest, b, inl (l, s))) = inr (inr (inr (count, es, t, rest, b, inl (l, inl (s, ap (λ n. Err (fault.Cut n)) e)))))
-view-refused bytes (fault.Cut place) (e, inr (count, es, t, rest, b, inr (inl (l, s)))) = inr (inr (inr (count, es, t, rest, b, inr (l, inl (s, ap (λ n. Err (fault.Cut n)) e)))))
-view-refused bytes (fault.Cut place) (e, inr (count, es, t, rest, b, inr (inr (m, after, l, q, s)))) = inr (inr (inr (count, es, t, rest, b, inr (l, inr (inl (m, after, q, s, ap (λ n. Err (fault.Cut n)) e))))))
+view-refused bytes (fault.Cut place) (e, inr (count, es, t, rest, b, inr (l, inl s))) = inr (inr (inr (count, es, t, rest, b, inr (l, inl (s, ap (λ n. Err (fault.Cut n)) e)))))
+view-refused bytes (fault.Cut place) (e, inr (count, es, t, rest, b, inr (l, inr (m, after, q, s)))) = inr (inr (inr (count, es, t, rest, b, inr (l, inr (inl (m, after, q, s, ap (λ n. Err (fault.Cut n)) e))))))
 view-refused bytes fault.Count (count, rest, q, l) = inr (inr (inl (count, rest, q, l, refl)))
-view-refused bytes (fault.Kind place) (count, es, t, rest, b, l, w, (k, e)) = inr (inr (inr (count, es, t, rest, b, inl (l, inr (inl (w, k, ap (λ (x : FileFault). Err x) e))))))
+view-refused bytes (fault.Kind place) (count, es, t, rest, b, l, w, k, e) = inr (inr (inr (count, es, t, rest, b, inl (l, inr (inl (w, k, ap (λ n. Err (fault.Kind n)) e))))))
 view-refused bytes (fault.Entry located) (count, es, t, e, rest, b, l, fit, at, r) = inr (inr (inr (count, es, t, _, b, inl (l, inr (inr (e, rest, located .fault, refl, fit, r, ap (λ n. Err (fault.Entry (record { offset = n; fault = located .fault }))) at))))))
 view-refused bytes (fault.Order place) (count, es, t, order, rest, b, l, at, n) = inr (inr (inr (count, es, t, _, b, inr (l, inr (inr (order, rest, refl, inl (n, ap (λ m. Err (fault.Order m)) at)))))))
 view-refused bytes (fault.Trailing place) (count, es, t, order, x, rest, b, l, n, at) = inr (inr (inr (count, es, t, _, b, inr (l, inr (inr (order, (x ∷ rest), refl, inr (n, inr (x, rest, refl, ap (λ m. Err (fault.Trailing m)) at))))))))

@@ -1,8 +1,8 @@
 -- How a task and a number stand in a file. Assumes nothing.
-use Prim.Native.Nat.{ℕ, zero, suc, _+_, _*_, _/_, _%_, _^_, _<_, _≤_}
+use Prim.Native.Nat.{ℕ, zero, suc, _+_, _/_, _%_, _^_, _<_, _≤_}
 use mathlib.Core.Path.{_≡_}
 use mathlib.Core.Bool.{Bool, cond}
-use mathlib.Core.List.{List, [], _∷_, _++_}
+use mathlib.Core.List.{List, [], _∷_}
 use lib.Dec.{eqb, leb}
 use lib.ListN.{length, getD, take}
 use Rattle.tasks.specs.declared.kind.Kind.{Kind}
@@ -20,14 +20,15 @@ use Rattle.std.specs.declared.option.Option.{Option}
 use Rattle.std.specs.declared.option.Option.the-variants.{None}
 
 -- so many bytes of a number, the lowest first
-abbrev pub lowestFirst : ℕ → ℕ → List ℕ
-lowestFirst zero n = []
-lowestFirst (suc k) n = n % 256 ∷ lowestFirst k (n / 256)
+abbrev pub littleEndian : ℕ → ℕ → List ℕ
+littleEndian zero n = []
+littleEndian (suc k) n = n % 256 ∷ littleEndian k (n / 256)
 
 -- a time takes four bytes
 abbrev pub timeBytes : ℕ → List ℕ
-timeBytes n = lowestFirst 4 n
+timeBytes n = littleEndian 4 n
 
+-- 0 tolerable, 1 strict
 abbrev pub kindByte : Kind → ℕ
 kindByte Tolerable = 0
 kindByte Strict = 1
@@ -40,6 +41,7 @@ fields r = r .normal ∷ r .abnormal ∷ r .section ∷ r .deadline ∷ r .perio
 abbrev pub taskWidth : ℕ
 taskWidth = 22
 
+-- a task as it stands in a file
 abbrev pub taskBytes : TaskEntry → List ℕ
 taskBytes e = e .number ∷ kindByte (e .row .kind) ∷ joined timeBytes (fields (e .row))
 
@@ -64,6 +66,6 @@ Holds es ps = (n : ℕ) → under n es ≡ listOf (getD ps n None)
 abbrev pub NotEntered : List (Option Row) → TaskEntry → ℕ → FileFault → Type 0
 NotEntered ps e offset f = (g : EntryFault) × (f ≡ fault.Entry (record { offset = offset; fault = g })) × EntryRefused ps (e .number) (e .row) g
 
--- of the numbers of an order those are kept for which a table has places; it is told whether these are all
+-- the first 32 numbers of an order are kept, as many as a table has places; complete says whether that is all of them
 abbrev pub KeptNumbers : List ℕ → Bool → List ℕ → Type 0
 KeptNumbers kept complete numbers = (kept ≡ take 32 numbers) × (complete ≡ leb (length numbers) 32)

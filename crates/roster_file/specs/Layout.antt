@@ -7,7 +7,7 @@ use lib.ListN.{length, getD}
 use Rattle.tasks.specs.Orders.{Lists}
 use Rattle.tasks.specs.Tables.{EntryRefused}
 use Rattle.tasks.specs.declared.table.Table.{Table}
-use Rattle.roster_file.specs.Entries.{taskBytes, taskWidth, TaskFits, NoKind, Holds}
+use Rattle.roster_file.specs.Entries.{taskBytes, taskWidth, TaskFits, Holds}
 use Rattle.roster_file.specs.declared.section.TaskEntry.{TaskEntry}
 use Rattle.roster_file.specs.declared.fault.FileFault.{FileFault}
 use Rattle.roster_file.specs.declared.fault.FileFault.the-variants as fault
@@ -39,11 +39,13 @@ pub record Begun (bytes : List ℕ) (count : ℕ) (es : List TaskEntry) (t : Tab
   pub holds : Holds es (t .places)
   pub file : bytes ≡ edition ∷ count ∷ (joined taskBytes es ++ rest)
 
--- the next record, the order's count or the order's next number is not whole
+-- the order's count or one of its numbers is missing
+abbrev pub OrderCut : List ℕ → Type 0
+OrderCut rest = (rest ≡ []) ⊎ ((m : ℕ) × (after : List ℕ) × (rest ≡ m ∷ after) × (length after < m))
+
+-- after so many records of a count, the next record, the order's count or the order's next number is not whole
 abbrev pub Short : ℕ → ℕ → List ℕ → Type 0
-Short count read rest =
-    ((read < count) × (length rest < taskWidth))
-    ⊎ (((read ≡ count) × (rest ≡ [])) ⊎ ((m : ℕ) × (after : List ℕ) × (read ≡ count) × (rest ≡ m ∷ after) × (length after < m)))
+Short count read rest = ((read < count) × (length rest < taskWidth)) ⊎ ((read ≡ count) × OrderCut rest)
 
 -- all questions before are answered yes, and the one that the fault names is not
 abbrev pub Refused : List ℕ → FileFault → Type 0
@@ -52,7 +54,7 @@ Refused bytes (fault.Cut place) =
     (place ≡ length bytes) × ((bytes ≡ edition ∷ []) ⊎ ((count : ℕ) × (es : List TaskEntry) × (t : Table) × (rest : List ℕ) × Begun bytes count es t rest × Short count (length es) rest))
 Refused bytes fault.Count = (count : ℕ) × (rest : List ℕ) × (bytes ≡ edition ∷ count ∷ rest) × (32 < count)
 Refused bytes (fault.Kind place) =
-    (count : ℕ) × (es : List TaskEntry) × (t : Table) × (rest : List ℕ) × Begun bytes count es t rest × (length es < count) × (taskWidth ≤ length rest) × NoKind rest (offset (length es)) (fault.Kind place)
+    (count : ℕ) × (es : List TaskEntry) × (t : Table) × (rest : List ℕ) × Begun bytes count es t rest × (length es < count) × (taskWidth ≤ length rest) × (2 ≤ getD rest 1 0) × (place ≡ offset (length es) + 1)
 Refused bytes (fault.Entry located) =
     (count : ℕ) × (es : List TaskEntry) × (t : Table) × (e : TaskEntry) × (rest : List ℕ) × Begun bytes count es t (taskBytes e ++ rest) × (length es < count) × TaskFits e × (located .offset ≡ offset (length es))
     × EntryRefused (t .places) (e .number) (e .row) (located .fault)
@@ -61,15 +63,3 @@ Refused bytes (fault.Order place) =
 Refused bytes (fault.Trailing place) =
     (count : ℕ) × (es : List TaskEntry) × (t : Table) × (order : List ℕ) × (b : ℕ) × (rest : List ℕ) × Begun bytes count es t (length order ∷ (order ++ (b ∷ rest))) × (length es ≡ count) × Named order t
     × (place ≡ offset count + 1 + length order)
-
--- the order section at an offset: its count, its numbers, and the rest of the file at a later offset
-pub record OrderRead (bytes : List ℕ) (at : ℕ) (t : Table) (order rest : List ℕ) (next : ℕ) : Type 0 where
-  pub file : bytes ≡ length order ∷ (order ++ rest)
-  pub named : Named order t
-  pub forward : next ≡ at + 1 + length order
-
--- why there is no order section at an offset: its count or a number is not whole, or it is neither empty nor each task once
-abbrev pub OrderRefused : List ℕ → ℕ → Table → FileFault → Type 0
-OrderRefused bytes at t f =
-    (((bytes ≡ []) ⊎ ((m : ℕ) × (after : List ℕ) × (bytes ≡ m ∷ after) × (length after < m))) × (f ≡ fault.Cut (at + length bytes)))
-    ⊎ (((order : List ℕ) × (rest : List ℕ) × (bytes ≡ length order ∷ (order ++ rest)) × (Named order t → ⊥)) × (f ≡ fault.Order at))

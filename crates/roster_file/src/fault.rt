@@ -1,7 +1,7 @@
 // Why a file is refused.
 ghost use mathlib.Core.Path.{_≡_};
 ghost use Rattle.roster_file.specs.declared.fault.FileFault.the-variants.{Entry};
-ghost use Rattle.roster_file.specs.Refusals.{fileTells};
+ghost use Rattle.roster_file.specs.Refusals.{locatedTells, fileTells};
 use tasks::fault::EntryFault;
 use tasks::fault::EntryFaultDebug;
 use tasks::fault::EntryFaultEq;
@@ -16,6 +16,20 @@ use tasks::refusal::Refusal;
 pub struct Located {
     pub offset: usize,
     pub fault: EntryFault,
+}
+
+pub impl Fault for Located as LocatedTells {
+    ghost tells = { locatedTells };
+
+    fn refusal(&self) -> Refusal {
+        let inner = self.fault.refusal();
+        Refusal {
+            number: inner.number,
+            layer: Layer::File,
+            place: self.offset,
+            innermost: inner.innermost,
+        }
+    }
 }
 
 #[derive(Clone, Copy, PartialEq, Eq, Debug)]
@@ -53,15 +67,7 @@ pub impl Fault for FileFault as FileFaultTells {
             FileFault::Cut(length) => (15, *length),
             FileFault::Count => (16, 1),
             FileFault::Kind(at) => (17, *at),
-            FileFault::Entry(located) => {
-                let inner = located.fault.refusal();
-                return Refusal {
-                    number: inner.number,
-                    layer: Layer::File,
-                    place: located.offset,
-                    innermost: inner.innermost,
-                };
-            }
+            FileFault::Entry(located) => return located.refusal(),
             FileFault::Order(at) => (18, *at),
             FileFault::Trailing(at) => (19, *at),
         };

@@ -6,7 +6,8 @@ ghost use mathlib.Core.List.{List, _∷_};
 ghost use Rattle.tasks.specs.Listed.{listed};
 ghost use Rattle.tasks.specs.declared.table.Table.{Table};
 ghost use Rattle.roster_file.specs.Entries.{KeptNumbers};
-ghost use Rattle.roster_file.specs.Layout.{edition, Named, Layout, Refused, OrderRead, OrderRefused};
+ghost use Rattle.roster_file.specs.OrderSection.{OrderRead, OrderRefused};
+ghost use Rattle.roster_file.specs.Layout.{edition, Named, Layout, Refused};
 ghost use Rattle.roster_file.specs.declared.fault.FileFault.{FileFault};
 ghost use Rattle.std.specs.Orderings.{Decides};
 ghost use Rattle.std.specs.Results.{Cases, isOk};
@@ -69,6 +70,7 @@ fn is_named(numbers: &Numbers, table: &Table) -> bool
     numbers.complete && table.is_listed_by(kept)
 }
 
+// The table and the order that a lawful file holds replace those handed in; a refused file leaves both as they were.
 pub fn read(bytes: &[u8], table: &mut Table, order: &mut Order) -> Result<(), FileFault>
     ensures outcome { λ r. ⌜ Cases r (λ _. Layout (now (bytes .entry)) (now (table .exit)) (listed (now (order .exit)))) (Refused (now (bytes .entry))) ⌝ }
     ensures kept { λ r. ⌜ Cases r (λ _. Unit {0}) (λ _. (now (table .exit) ≡ now (table .entry)) × (now (order .exit) ≡ now (order .entry))) ⌝ }

@@ -2,7 +2,8 @@
 ghost use Prim.Native.Nat.{ℕ, _+_, _^_, _<_, _≤_};
 ghost use mathlib.Core.Path.{_≡_};
 ghost use mathlib.Core.List.{List, [], _∷_, _++_};
-ghost use lib.ListN.{length, getD, take, drop};
+ghost use lib.ListN.{length, take, drop};
+ghost use Rattle.tasks.specs.Listed.{listed};
 ghost use Rattle.roster_file.specs.Entries.{taskBytes, timeBytes, taskWidth, TaskFits, NoKind, Holds, NotEntered, KeptNumbers};
 ghost use Rattle.roster_file.specs.declared.fault.FileFault.{FileFault};
 ghost use Rattle.std.specs.Results.{Cases};
@@ -25,13 +26,13 @@ pub(crate) trait Section: Sized {
     ghost width: { ℕ };
 
     // the bytes of an entry
-    ghost spelled: { Self·Entry → List ℕ };
+    ghost encoded: { Self·Entry → List ℕ };
 
     // each part of an entry fits its bytes
     ghost fits: { Self·Entry → Type 0 };
 
     // why bytes at an offset are no entry
-    ghost misspelled: { List ℕ → ℕ → FileFault → Type 0 };
+    ghost undecodable: { List ℕ → ℕ → FileFault → Type 0 };
 
     // The width, as clauses can name it.
     fn entry_len() -> usize
@@ -49,7 +50,7 @@ pub(crate) trait Section: Sized {
     fn decode(bytes: &[u8], offset: usize) -> Result<Self::Entry, FileFault>
         requires whole { ⌜ length (now bytes) ≡ width ⌝ }
         requires inside { ⌜ offset + width < 2 ^ 64 ⌝ }
-        ensures { λ r. ⌜ Cases r (λ e. (now (bytes .entry) ≡ spelled e) × fits e) (misspelled (now (bytes .entry)) offset) ⌝ };
+        ensures { λ r. ⌜ Cases r (λ e. (now (bytes .entry) ≡ encoded e) × fits e) (undecodable (now (bytes .entry)) offset) ⌝ };
 
     fn keep(&mut self, entry: Self::Entry, offset: usize) -> Result<(), FileFault>
         ensures { λ r. ⌜ Cases r (λ _. (es : List Self·Entry) → holds (now (self .entry)) es → holds (now (self .exit)) (es ++ (entry ∷ []))) (rejects (now (self .entry)) entry offset) ⌝ };
@@ -75,11 +76,11 @@ pub(crate) impl Section for Tasks as TasksSection {
 
     ghost width = { taskWidth };
 
-    ghost spelled = { taskBytes };
+    ghost encoded = { taskBytes };
 
     ghost fits = { TaskFits };
 
-    ghost misspelled = { NoKind };
+    ghost undecodable = { NoKind };
 
     ghost holds = { λ s es. Holds es (s .table .places) };
 
@@ -139,7 +140,7 @@ fn time(bytes: &[u8], at: usize) -> u32
     u32::from_le_bytes([bytes[at], bytes[at + 1], bytes[at + 2], bytes[at + 3]])
 }
 
-// The numbers of an order. Those for which a table has no place are counted, and not kept.
+// The first 32 numbers of an order, and whether there were no more.
 #[derive(Drop)]
 pub(crate) struct Numbers {
     pub order: Order,
@@ -153,13 +154,13 @@ pub(crate) impl Section for Numbers as NumbersSection {
 
     ghost width = { 1 };
 
-    ghost spelled = { λ n. n ∷ [] };
+    ghost encoded = { λ n. n ∷ [] };
 
     ghost fits = { λ n. n < 256 };
 
-    ghost misspelled = { λ _ _ _. ⊥ };
+    ghost undecodable = { λ _ _ _. ⊥ };
 
-    ghost holds = { λ s. KeptNumbers (take (s .order .len) (s .order .numbers)) (s .complete) };
+    ghost holds = { λ s. KeptNumbers (listed (s .order)) (s .complete) };
 
     ghost rejects = { λ _ _ _ _. ⊥ };
 
@@ -180,7 +181,7 @@ pub(crate) impl Section for Numbers as NumbersSection {
 
     fn keep(&mut self, entry: u8, _offset: usize) -> Result<(), FileFault> {
         let kept = self.order.push(entry);
-        self.complete = self.complete & kept;
+        self.complete &= kept;
         Ok(())
     }
 }

@@ -1,7 +1,7 @@
 -- The members of a set as a list: each once, and how the lowest is taken off. Assumes nothing.
 use mathlib.Core.Path.{_≡_, refl, sym, ap, _∙_}
 use mathlib.Core.Logic.{_⊎_, inl, inr}
-use mathlib.Core.Bool.{cond, _&&_}
+use mathlib.Core.Bool.{true, cond, _&&_}
 use mathlib.Core.List.{List, [], _∷_}
 use Prim.Native.Nat.{ℕ, zero, suc, _+_, _-_, _*_, _/_, _%_, _^_, _≤_, _<_, min}
 use native.Mathlib.Nat.{pow-suc, add-zero, zero-add}
@@ -10,10 +10,10 @@ use lib.Bits.{bitAnd, and-step, and-self}
 use lib.Count.{trailingZeros, under, ones, ones-step}
 use lib.Dec.{eqb, ltb, leb·suc-suc}
 use lib.ListN.{length}
-use Rattle.std.proofs.shelf.Tests.{cond-true, cond-false, eq-eqb, ne-eqb, lt-ltb, le-ltb, and-left, cases-lt}
+use Rattle.std.proofs.shelf.Tests.{cond-true, cond-false, eq-eqb, ne-eqb, lt-ltb, le-ltb, and-left, and-parts, not-true, eqb-true, eqb-false, cases-lt}
 use Rattle.tasks.specs.Sets.{member, excluding, membersFrom}
 use Rattle.tasks.specs.Orders.{occurs}
-use Rattle.tasks.proofs.Sets.{member-zero, member-suc, excluding-zero, excluding-suc, member-past}
+use Rattle.tasks.proofs.Sets.{member-zero, member-suc, excluding-zero, excluding-suc, member-excluding, member-in, member-past}
 
 parity : (h : ℕ) → (h % 2 ≡ 1) ⊎ (h % 2 ≡ 0)
 parity h = grind arith
@@ -141,3 +141,18 @@ lowest k (suc n) h p l = elim (parity h) [ inl e ↦ odd k n h e | inr e ↦ eve
 -- the lowest member taken off, as the code does it
 pub take-off : (w h : ℕ) → 0 < h → h < 2 ^ w → membersFrom 0 w h ≡ trailingZeros w h ∷ membersFrom 0 w (bitAnd h (h - 1))
 take-off w h p l = let r = lowest 0 w h p l in r .1 ∙ ap (λ x. x ∷ membersFrom 0 w (excluding h (trailingZeros w h))) (zero-add (trailingZeros w h)) ∙ ap (λ x. trailingZeros w h ∷ membersFrom 0 w x) (sym (r .2))
+
+-- no member stands below the lowest
+pub lowest-le : (n h j : ℕ) → member h j ≡ true → j < n → trailingZeros n h ≤ j
+unfolding trailingZeros
+lowest-le zero h j y l = absurd (omega arith)
+lowest-le (suc n) h j y l = elim (parity h) [ inl e ↦ omega (arith, ap (λ d. under d (trailingZeros n (h / 2))) e) | inr e ↦ omega (arith, ap (λ d. under d (trailingZeros n (h / 2))) e, further e j y l (lowest-le n (h / 2))) ] where
+  further : h % 2 ≡ 0 → (i : ℕ) → member h i ≡ true → i < suc n → ((m : ℕ) → member (h / 2) m ≡ true → m < n → trailingZeros n (h / 2) ≤ m) → suc (trailingZeros n (h / 2)) ≤ i
+  further e zero z k r = absurd (omega (arith, eqb-true (h % 2) 1 (sym (member-zero h) ∙ z)))
+  further e (suc i) z k r = omega (arith, r i (sym (member-suc h i) ∙ z) (omega arith))
+
+-- what is left without the lowest stands above it
+pub rising : (n h j : ℕ) → h < 2 ^ n → member (excluding h (trailingZeros n h)) j ≡ true → trailingZeros n h < j
+rising n h j l y =
+    let p = and-parts (member h j) _ (sym (member-excluding h (trailingZeros n h) j) ∙ y) in
+    omega (arith, lowest-le n h j (p .0) (member-in n h j l (p .0)), eqb-false j (trailingZeros n h) (not-true _ (p .1)))

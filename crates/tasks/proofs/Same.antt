@@ -3,7 +3,6 @@ use mathlib.Core.Path.{_≡_, ap, subst}
 use mathlib.Core.List.{List}
 use Rattle.tasks.specs.declared.row.Row.{Row}
 use Rattle.tasks.specs.declared.table.Table.{Table}
-use Rattle.tasks.specs.contracts.kind.Kind as kind
 use Rattle.tasks.specs.contracts.row.Row as row
 use Rattle.tasks.specs.contracts.table.Table as table
 use Rattle.std.specs.contracts.option.Option as option

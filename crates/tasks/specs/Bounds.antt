@@ -17,12 +17,15 @@ longest = 1000000
 abbrev pub Numbered : ℕ → Type 0
 Numbered n = n ≤ 31
 
+-- the question about the normal and the abnormal time
 abbrev pub Times : Row → Type 0
 Times r = (1 ≤ r .normal) × (r .normal ≤ r .abnormal) × (r .abnormal ≤ longest)
 
+-- the question about the deadline and the period
 abbrev pub Window : Row → Type 0
 Window r = (1 ≤ r .deadline) × (r .deadline ≤ r .period) × (r .period ≤ longest)
 
+-- the question about the stretch that may not be interrupted
 abbrev pub Section : Row → Type 0
 Section r = r .section ≤ r .normal
 

@@ -13,6 +13,7 @@ use Rattle.tasks.specs.declared.fault.SpaceFault.{SpaceFault}
 abbrev pub plain : ℕ → Layer → ℕ → Refusal
 plain n l p = record { number = n; layer = l; place = p; innermost = n }
 
+-- the four questions of a record
 abbrev pub recordTells : RecordFault → Refusal
 recordTells (Number n) = plain 1 layer.Record n
 recordTells (Times n) = plain 2 layer.Record n
@@ -24,5 +25,6 @@ abbrev pub entryTells : EntryFault → Refusal
 entryTells (Invalid f) = recordTells f
 entryTells (Taken n) = plain 5 layer.Roster n
 
+-- a space that is too short, with the bytes needed
 abbrev pub spaceTells : SpaceFault → Refusal
 spaceTells f = plain 20 layer.File (f .needed)

@@ -3,7 +3,6 @@ use Prim.Native.Nat.{ℕ}
 use mathlib.Core.Path.{_≡_}
 use mathlib.Core.Bool.{true}
 use mathlib.Core.List.{List}
-use lib.ListN.{set}
 use Rattle.tasks.specs.Bounds.{Lawful, RecordRefused}
 use Rattle.tasks.specs.Orders.{inUse}
 use Rattle.tasks.specs.declared.row.Row.{Row}

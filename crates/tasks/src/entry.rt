@@ -1,5 +1,4 @@
 // A record enters a table under an empty number, or is refused by the first question that is answered no.
-ghost use Prim.Native.Nat.{ℕ};
 ghost use mathlib.Core.Path.{_≡_};
 ghost use mathlib.Core.Bool.{false};
 ghost use lib.ListN.{set};
@@ -15,6 +14,7 @@ use crate::row::Row;
 use crate::table::Table;
 
 impl Table {
+    // Asks the questions of a record, then whether the place of its number is empty; a refused entry changes nothing.
     pub fn enter(&mut self, number: u8, row: Row) -> Result<(), EntryFault>
         ensures entered { λ r. ⌜ Cases r (λ _. Lawful number row × (inUse (now (self .entry) .places) number ≡ false) × (now (self .exit) .places ≡ set (now (self .entry) .places) number (Some row))) (λ f. EntryRefused (now (self .entry) .places) number row f × (now (self .exit) ≡ now (self .entry))) ⌝ }
     {

@@ -1,7 +1,6 @@
 // One task: its number and its row, within their bounds.
-ghost use Prim.Native.Nat.{_≤_};
 ghost use mathlib.Core.Path.{_≡_};
-ghost use Rattle.tasks.specs.Bounds.{Numbered, Times, Window, Section, Lawful, RecordRefused, Bounded};
+ghost use Rattle.tasks.specs.Bounds.{Numbered, Times, Window, Section, Lawful, RecordRefused};
 ghost use Rattle.std.specs.Results.{Cases};
 use crate::fault::RecordFault;
 use crate::row::Row;

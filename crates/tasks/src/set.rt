@@ -1,5 +1,5 @@
 // Sets of tasks: 32 bits, bit n for task n.
-ghost use Prim.Native.Nat.{ℕ, _≤_};
+ghost use Prim.Native.Nat.{ℕ, _≤_, _<_};
 ghost use mathlib.Core.Path.{_≡_};
 ghost use mathlib.Core.Bool.{true, not, cond, _&&_, _||_};
 ghost use mathlib.Core.List.{[], _∷_};
@@ -73,7 +73,7 @@ impl TaskSet {
     pub fn take_lowest(&mut self) -> Option<u8>
         ensures { λ r. ⌜ BySome r
             ((now (self .entry) .bits ≡ 0) × (members (now (self .entry) .bits) ≡ []) × (now (self .exit) ≡ now (self .entry)))
-            (λ n. (members (now (self .entry) .bits) ≡ n ∷ members (now (self .exit) .bits)) × (n ≤ 31) × (now (self .exit) .bits ≡ excluding (now (self .entry) .bits) n)) ⌝ }
+            (λ n. (members (now (self .entry) .bits) ≡ n ∷ members (now (self .exit) .bits)) × (n ≤ 31) × (now (self .exit) .bits ≡ excluding (now (self .entry) .bits) n) × ((j : ℕ) → member (now (self .exit) .bits) j ≡ true → n < j)) ⌝ }
     {
         if self.is_empty() {
             return None;

@@ -1,6 +1,6 @@
 // A table with an order that lists each of its tasks once.
 ghost use mathlib.Core.Path.{_≡_};
-ghost use lib.ListN.{take};
+ghost use Rattle.tasks.specs.Listed.{listed};
 ghost use Rattle.tasks.specs.Orders.{Lists};
 ghost use Rattle.std.specs.Options.{Cases as BySome};
 use crate::order::Order;
@@ -10,14 +10,14 @@ use crate::table::Table;
 pub struct Standing {
     pub(crate) table: Table,
     pub(crate) order: Order,
-    ghost listed: { Lists (take (order .len) (order .numbers)) (table .places) },
+    ghost named: { Lists (listed order) (table .places) },
 }
 
 impl Standing {
     // The two together; none exactly where the order does not list each task once.
     pub fn new(table: Table, order: Order) -> Option<Standing>
         ensures { λ r. ⌜ BySome r
-            (Lists (take (order .len) (order .numbers)) (table .places) → ⊥)
+            (Lists (listed order) (table .places) → ⊥)
             (λ s. (s .table ≡ table) × (s .order ≡ order)) ⌝ }
     {
         if !table.is_listed_by(order.as_slice()) {
@@ -26,15 +26,15 @@ impl Standing {
         Some(Standing { table, order })
     }
 
-    pub fn table(&self) -> Table
-        ensures { λ r. ⌜ r ≡ now (self .entry) .table ⌝ }
+    pub fn table(&self) -> &Table
+        ensures { λ r. ⌜ now r ≡ now (self .entry) .table ⌝ }
     {
-        self.table
+        &self.table
     }
 
-    pub fn order(&self) -> Order
-        ensures { λ r. ⌜ r ≡ now (self .entry) .order ⌝ }
+    pub fn order(&self) -> &Order
+        ensures { λ r. ⌜ now r ≡ now (self .entry) .order ⌝ }
     {
-        self.order
+        &self.order
     }
 }

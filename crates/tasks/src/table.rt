@@ -1,5 +1,4 @@
 // Thirty-two places, one for each task number; a place is empty or holds the row of a lawful record. Written whole.
-ghost use Prim.Native.Nat.{ℕ, _≤_};
 ghost use mathlib.Core.Path.{_≡_};
 ghost use lib.ListN.{length, getD, set, replicate};
 ghost use Rattle.tasks.specs.Bounds.{Times, Window, Section, Bounded, Every};
@@ -14,7 +13,7 @@ pub const PLACES: usize = 32;
 
 #[derive(Clone, Copy)]
 pub struct Table {
-    pub(crate) places: [Option<Row>; 32],
+    pub(crate) places: [Option<Row>; PLACES],
     ghost full: { length places ≡ 32 },
     ghost times: { Every Times places },
     ghost window: { Every Window places },
@@ -25,7 +24,9 @@ impl Table {
     pub fn empty() -> Table
         ensures { λ r. ⌜ r .places ≡ replicate 32 None ⌝ }
     {
-        Table { places: [None; 32] }
+        Table {
+            places: [None; PLACES],
+        }
     }
 
     // The row at a place, with its bounds; none above the last number.

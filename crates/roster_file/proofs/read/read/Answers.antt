@@ -1,5 +1,5 @@
 use denote.Ref.{now}
-use mathlib.Core.Path.{_≡_, refl, sym, ap, subst, _∙_}
+use mathlib.Core.Path.{_≡_, refl, sym, subst, _∙_}
 use Prim.Native.Nat.{_<_}
 use lib.ListN.{length}
 use native.Mathlib.Omega.{arith}
@@ -7,7 +7,6 @@ use borrow.Author.Tests.{eqb-true, eqb-false}
 use Rattle.std.proofs.shelf.Results.{err-from-errBy}
 use Rattle.tasks.specs.Listed.{listed}
 use Rattle.roster_file.specs.Layout.{Refused}
-use Rattle.roster_file.proofs.Holding.{holds-none}
 use Rattle.roster_file.proofs.Keeping.{at-err}
 use Rattle.roster_file.proofs.Reading.{tasks-refused, order-refused, trailing-refused, whole-file}
 use Rattle.roster_file.proofs.Unique.{layout-one, never-both, refused-only}

@@ -1,10 +1,9 @@
 use denote.Ref.{now}
-use mathlib.Core.Path.{_≡_, sym, subst, _∙_}
+use mathlib.Core.Path.{sym, subst, _∙_}
 use mathlib.Core.Logic.{inl, inr}
-use mathlib.Core.Bool.{true, false}
 use borrow.Author.Tests.{clash}
 use Rattle.std.proofs.shelf.Results.{err-from-errBy}
-use Rattle.roster_file.specs.Layout.{OrderRefused}
+use Rattle.roster_file.specs.OrderSection.{OrderRefused}
 use Rattle.roster_file.proofs.Keeping.{at-err}
 use Rattle.roster_file.proofs.Reading.{order-no-count, order-cut, order-unnamed, order-named}
 use Rattle.roster_file.proofs.read.read_order.Needs as need

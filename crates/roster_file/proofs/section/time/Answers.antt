@@ -1,6 +1,5 @@
 use borrow.Author.Needs.{needs}
 use mathlib.Core.Path.{sym, _∙_}
-use native.Mathlib.Omega.{arith}
 use Rattle.roster_file.proofs.Bytes.{four, time-from}
 use Rattle.roster_file.proofs.section.time.Needs as need
 

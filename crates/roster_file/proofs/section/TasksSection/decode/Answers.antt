@@ -1,7 +1,6 @@
 use borrow.Author.Needs.{needs}
 use mathlib.Core.Path.{_≡_, ap, sym, _∙_}
 use lib.ListN.{getD}
-use native.Mathlib.Omega.{arith}
 use Rattle.roster_file.specs.Entries.{kindByte}
 use Rattle.roster_file.proofs.Bytes.{task-from}
 use Rattle.roster_file.proofs.section.TasksSection.decode.Needs as need
