@@ -4,3 +4,5 @@ pub mod Sets
 pub mod Members
 pub mod Listing
 pub mod Few
+pub mod Subsets
+pub mod Changing

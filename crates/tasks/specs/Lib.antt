@@ -4,3 +4,4 @@ pub mod Sets
 pub mod Orders
 pub mod Listed
 pub mod Tables
+pub mod Changes

@@ -1,4 +1,5 @@
 // Tasks, tables of tasks, sets and orders of tasks, and how a refusal is told.
+pub mod change;
 pub mod entry;
 pub mod fault;
 pub mod kind;

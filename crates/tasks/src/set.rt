@@ -7,6 +7,7 @@ ghost use lib.Dec.{eqb, leb};
 ghost use lib.ListN.{length};
 ghost use Rattle.tasks.specs.Orders.{occurs};
 ghost use Rattle.tasks.specs.Sets.{member, including, excluding, members};
+ghost use Rattle.std.specs.Orderings.{Decides};
 ghost use Rattle.std.specs.Options.{Cases as BySome};
 use crate::record::LAST;
 
@@ -59,6 +60,12 @@ impl TaskSet {
         TaskSet {
             bits: self.bits - (1 << number),
         }
+    }
+
+    pub fn is_subset_of(self, other: TaskSet) -> bool
+        ensures { λ r. ⌜ Decides r ((j : ℕ) → member (self .bits) j ≡ true → member (other .bits) j ≡ true) ⌝ }
+    {
+        self.bits & other.bits == self.bits
     }
 
     // How many members there are; the list of them has each member once.

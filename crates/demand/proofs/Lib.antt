@@ -1,0 +1,5 @@
+pub mod Rounding
+pub mod Bounds
+pub mod Monotone
+pub mod Search
+pub mod Present

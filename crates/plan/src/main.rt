@@ -1,0 +1,37 @@
+// Reads a roster file from standard input, plans the priorities of its tasks and prints the listing.
+mod answer;
+#[cfg(test)]
+mod label_press;
+mod planning;
+mod roster;
+#[cfg(test)]
+mod tests;
+
+use crate::answer::Answer;
+use crate::answer::write_answer;
+use std::error::AnyError;
+use std::io::Read;
+use std::io::Write;
+
+// The longest listing has 777 bytes.
+const SPACE: usize = 1024;
+
+// Whether the file is refused. The refusal is part of the answer: it is written as the listing is.
+fn run(rt: &LibcRuntime) -> Result<bool, AnyError> {
+    let mut file = Vec::new(rt.alloc());
+    rt.stdin().read_to_end(&mut file)?;
+    let mut space = [0; SPACE];
+    let Ok(Answer { len, refused }) = write_answer(&file, &mut space) else {
+        return Err("the space for the answer is too short".into());
+    };
+    rt.stdout().write_all(&space[0..len])?;
+    Ok(refused)
+}
+
+fn main(rt: LibcRuntime) -> Result<(), AnyError> {
+    let refused = rt.report(run(&rt))?;
+    if refused {
+        return Err("refused".into());
+    }
+    Ok(())
+}

@@ -1,0 +1,4 @@
+pub mod Laws
+pub mod Proper
+pub mod Layers
+pub mod Refusals

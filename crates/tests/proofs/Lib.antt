@@ -1,0 +1,5 @@
+pub mod Places
+pub mod Blocking
+pub mod Keeps
+pub mod Answers
+pub mod Guaranteeing

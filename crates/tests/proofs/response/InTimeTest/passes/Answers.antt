@@ -1,0 +1,17 @@
+use mathlib.Core.Path.{refl, sym, _∙_}
+use lib.ListN.{getD}
+use Rattle.std.specs.declared.option.Option.the-variants.{None}
+use Rattle.tests.specs.Rules.{responds}
+use Rattle.tests.proofs.Answers.{response-says, after-proper}
+use Rattle.tests.proofs.response.InTimeTest.passes.Needs as need
+
+pub returns-then-is-proper : need.returns-then-is-proper
+returns-then-is-proper c =
+    let t = c .args .table .now in
+    let k = c .args .task in
+    let h = c .args .above .bits in
+    let m = c .args .self .now .mode in
+    record {
+      answer = c .is-some .ensures ∙ response-says m (t .places) h (getD (t .places) k None) (c .response .result) (c .response .ensures) ∙ sym (after-proper (responds m) t k h (sym (c .if-is-proper .ensures tt .value)));
+      same = λ u i g. refl;
+    }

@@ -1,0 +1,42 @@
+// Says yes when the response time in a mode is present.
+ghost use mathlib.Core.Path.{_≡_};
+ghost use Rattle.demand.specs.declared.mode.Mode.the-variants.{Normal, Abnormal};
+ghost use Rattle.schedulability.specs.Proper.{guarded};
+ghost use Rattle.tests.specs.Rules.{responds};
+use demand::mode::Mode;
+use demand::response;
+use schedulability::proper::is_proper;
+use schedulability::test::Test;
+use tasks::set::TaskSet;
+use tasks::table::Table;
+
+#[derive(Clone, Copy)]
+pub struct InTime {
+    mode: Mode,
+}
+
+impl InTime {
+    // The normal test.
+    pub fn normal() -> InTime
+        ensures { λ r. ⌜ r .mode ≡ Normal ⌝ }
+    {
+        InTime { mode: Mode::Normal }
+    }
+
+    // The abnormal test.
+    pub fn abnormal() -> InTime
+        ensures { λ r. ⌜ r .mode ≡ Abnormal ⌝ }
+    {
+        InTime {
+            mode: Mode::Abnormal,
+        }
+    }
+}
+
+pub impl Test for InTime as InTimeTest {
+    ghost says = { λ s. guarded (responds (s .mode)) };
+
+    fn passes(&mut self, table: &Table, task: u8, above: TaskSet) -> bool {
+        is_proper(table, task, above) && response(table, task, above, self.mode).is_some()
+    }
+}
