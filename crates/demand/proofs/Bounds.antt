@@ -2,7 +2,7 @@
 use Prim.Native.Nat.{ℕ, _*_, _≤_}
 use native.Mathlib.Omega.{arith}
 use native.Mathlib.Nat.{mul-le-mul}
-use Rattle.demand.proofs.Rounding.{releases-le}
+use Rattle.demand.proofs.Rounding.{ceil-le}
 use Rattle.demand.specs.Demand.{releases, cost}
 use Rattle.demand.specs.declared.mode.Mode.{Mode}
 use Rattle.demand.specs.declared.mode.Mode.the-variants.{Normal, Abnormal}
@@ -15,4 +15,4 @@ cost-le Abnormal r b = omega arith
 
 -- at most t of its longest jobs in t ticks
 pub asked-le : (m : Mode) (r : Row) (t : ℕ) → Bounded r → cost m r * releases (r .period) t ≤ longest * t
-asked-le m r t b = mul-le-mul (cost-le m r b) (releases-le (r .period) t (omega arith))
+asked-le m r t b = mul-le-mul (cost-le m r b) (ceil-le (r .period) t (omega arith))

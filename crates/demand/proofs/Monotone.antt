@@ -7,7 +7,7 @@ use Prim.Native.Nat.{ℕ, zero, suc, _+_, _/_, _%_, _≤_, zero-le}
 use native.Mathlib.Omega.{arith}
 use native.Mathlib.Nat.{le-refl, le-trans, mul-le-mul-left}
 use lib.ListN.{getD, set}
-use Rattle.demand.proofs.Rounding.{releases-mono}
+use Rattle.demand.proofs.Rounding.{ceil-mono}
 use Rattle.demand.specs.Demand.{cost, share, interference, demand, IsResponse}
 use Rattle.demand.specs.declared.mode.Mode.{Mode}
 use Rattle.std.proofs.shelf.Tests.{cases-lt, eqb-true, eq-eqb}
@@ -20,7 +20,7 @@ use Rattle.tasks.specs.Sets.{member, members, membersFrom}
 use Rattle.tasks.specs.declared.row.Row.{Row}
 
 pub share-mono : (m : Mode) (o : Option Row) (s t : ℕ) → s ≤ t → share m s o ≤ share m t o
-share-mono m (Some r) s t l = mul-le-mul-left (cost m r) (releases-mono (r .period) s t l)
+share-mono m (Some r) s t l = mul-le-mul-left (cost m r) (ceil-mono (r .period) s t l)
 share-mono m None s t l = le-refl 0
 
 pub interference-mono : (m : Mode) (ps : List (Option Row)) (js : List ℕ) (s t : ℕ) → s ≤ t → interference m ps js s ≤ interference m ps js t

@@ -6,12 +6,12 @@ use native.Mathlib.Omega.{arith}
 use native.Mathlib.Nat.{le-trans, le-of-suc-le-suc, le-div-iff-mul-le, div-lt-iff-lt-mul, div-mul-le-self, div-zero, suc-mul, mul-le-mul-left, mul-one}
 use Rattle.std.proofs.shelf.Bits.{div-mul-add, div-add-mod'}
 use Rattle.std.proofs.shelf.Tests.{cases-lt}
-use Rattle.demand.specs.Demand.{releases}
+use Rattle.demand.specs.Demand.{ceilDiv}
 
 -- as `div_ceil` says it
-pub releases-ceil : (p t : ℕ) → 1 ≤ p → t / p + min 1 (t % p) ≡ releases p t
-unfolding releases
-releases-ceil p t h =
+pub ceil-quotient : (p t : ℕ) → 1 ≤ p → t / p + min 1 (t % p) ≡ ceilDiv t p
+unfolding ceilDiv
+ceil-quotient p t h =
     let e = div-add-mod' t p in
     elim (cases-lt 0 (t % p)) [
       | inl l ↦ let w : t + (p - 1) ≡ suc (t / p) * p + (t % p - 1) = omega (arith, suc-mul (t / p) p) in
@@ -24,24 +24,24 @@ over-mono : (p s t : ℕ) → s ≤ t → s / p ≤ t / p
 over-mono zero s t l = omega (arith, div-zero s, div-zero t)
 over-mono (suc p) s t l = le-div-iff-mul-le (omega arith) .1 (le-trans (div-mul-le-self s (suc p)) l)
 
-pub releases-mono : (p s t : ℕ) → s ≤ t → releases p s ≤ releases p t
-unfolding releases
-releases-mono p s t l = over-mono p (s + (p - 1)) (t + (p - 1)) (omega arith)
+pub ceil-mono : (p s t : ℕ) → s ≤ t → ceilDiv s p ≤ ceilDiv t p
+unfolding ceilDiv
+ceil-mono p s t l = over-mono p (s + (p - 1)) (t + (p - 1)) (omega arith)
 
-pub releases-le : (p t : ℕ) → 1 ≤ p → releases p t ≤ t
-unfolding releases
-releases-le p t h = le-of-suc-le-suc (div-lt-iff-lt-mul h .1 (omega (arith, suc-mul t p, mul-le-mul-left t h, mul-one t)))
+pub ceil-le : (p t : ℕ) → 1 ≤ p → ceilDiv t p ≤ t
+unfolding ceilDiv
+ceil-le p t h = le-of-suc-le-suc (div-lt-iff-lt-mul h .1 (omega (arith, suc-mul t p, mul-le-mul-left t h, mul-one t)))
 
--- the releases' periods cover the time
-pub releases-cover : (p t : ℕ) → 1 ≤ p → t ≤ releases p t * p
-unfolding releases
-releases-cover p t h = omega arith
+-- so many times p cover t
+pub ceil-cover : (p t : ℕ) → 1 ≤ p → t ≤ ceilDiv t p * p
+unfolding ceilDiv
+ceil-cover p t h = omega arith
 
--- no more than are needed to cover the time
-pub releases-least : (p t n : ℕ) → 1 ≤ p → t ≤ n * p → releases p t ≤ n
-unfolding releases
-releases-least p t n h l = le-of-suc-le-suc (div-lt-iff-lt-mul h .1 (omega (arith, suc-mul n p)))
+-- and no fewer do
+pub ceil-least : (p t n : ℕ) → 1 ≤ p → t ≤ n * p → ceilDiv t p ≤ n
+unfolding ceilDiv
+ceil-least p t n h l = le-of-suc-le-suc (div-lt-iff-lt-mul h .1 (omega (arith, suc-mul n p)))
 
-pub releases-pos : (p t : ℕ) → 1 ≤ p → 1 ≤ t → 1 ≤ releases p t
-unfolding releases
-releases-pos p t h l = le-div-iff-mul-le h .1 (omega arith)
+pub ceil-pos : (p t : ℕ) → 1 ≤ p → 1 ≤ t → 1 ≤ ceilDiv t p
+unfolding ceilDiv
+ceil-pos p t h l = le-div-iff-mul-le h .1 (omega arith)

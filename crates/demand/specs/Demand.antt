@@ -10,9 +10,13 @@ use Rattle.tasks.specs.declared.row.Row.{Row}
 use Rattle.demand.specs.declared.mode.Mode.{Mode}
 use Rattle.demand.specs.declared.mode.Mode.the-variants.{Normal, Abnormal}
 
--- how many releases of a task with period p fall into t ticks: t over p, rounded up
-unfoldable pub releases : ℕ → ℕ → ℕ
-releases p t = (t + (p - 1)) / p
+-- a over b, the quotient rounded up
+unfoldable pub ceilDiv : ℕ → ℕ → ℕ
+ceilDiv a b = (a + (b - 1)) / b
+
+-- how many releases of a task with period p fall into t ticks
+abbrev pub releases : ℕ → ℕ → ℕ
+releases p t = ceilDiv t p
 
 -- the longest time of a job in a mode
 abbrev pub cost : Mode → Row → ℕ

@@ -19,7 +19,7 @@ use Rattle.tasks.proofs.Sets.{member-zero, member-suc, member-excluding, exclud
 use Rattle.demand.specs.Demand.{share, interference, demand}
 use Rattle.demand.specs.declared.mode.Mode.{Mode}
 use Rattle.demand.specs.declared.mode.Mode.the-variants.{Normal}
-use Rattle.demand.proofs.Rounding.{releases-pos}
+use Rattle.demand.proofs.Rounding.{ceil-pos}
 use Rattle.tests.specs.Rules.{sectionAt, sectionBelow, blocking}
 use Rattle.tests.proofs.Places.{largest-one}
 
@@ -64,7 +64,7 @@ module _ (m : Mode) (ps : List (Option Row)) (t : ℕ) where
 
 -- a task asks for its normal time at least
 share-least : (r : Row) (t : ℕ) → Bounded r → 1 ≤ t → r .normal ≤ share Normal t (Some r)
-share-least r t b l = omega (arith, mul-le-mul-left (r .normal) (releases-pos (r .period) t (omega arith) l), mul-one (r .normal))
+share-least r t b l = omega (arith, mul-le-mul-left (r .normal) (ceil-pos (r .period) t (omega arith) l), mul-one (r .normal))
 
 -- what another task below may hold up is the same
 pub other-below : (ps : List (Option Row)) (k h j i : ℕ) → (i ≡ j → ⊥) → sectionBelow ps k (excluding h j) i ≡ sectionBelow ps k h i

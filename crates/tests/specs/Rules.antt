@@ -8,7 +8,7 @@ use Rattle.std.specs.declared.option.Option.{Option}
 use Rattle.std.specs.declared.option.Option.the-variants.{Some, None}
 use Rattle.tasks.specs.Sets.{member}
 use Rattle.tasks.specs.declared.row.Row.{Row}
-use Rattle.demand.specs.Demand.{releases, demand, searchEnd}
+use Rattle.demand.specs.Demand.{ceilDiv, demand, searchEnd}
 use Rattle.demand.specs.Present.{someUpTo, present}
 use Rattle.demand.specs.declared.mode.Mode.{Mode}
 use Rattle.demand.specs.declared.mode.Mode.the-variants.{Normal}
@@ -52,7 +52,7 @@ sumBelow (suc n) f = sumBelow n f + f n
 
 -- the millionths of the processor that a task takes with fault recovery, rounded up; none at an empty place
 abbrev pub utilization : Option Row → ℕ
-utilization (Some r) = releases (r .period) (r .abnormal * 1000000)
+utilization (Some r) = ceilDiv (r .abnormal * 1000000) (r .period)
 utilization None = 0
 
 -- the load of a table: the utilization of all its tasks
