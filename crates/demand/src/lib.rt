@@ -54,7 +54,7 @@ fn interference(table: &Table, above: TaskSet, mode: Mode, t: u32) -> u64
     sum
 }
 
-// What the task asks for in t ticks below the set; none exactly at an empty place. An empty place in the set asks for nothing, and the
+// What the task asks for in t ticks below the set; none exactly at an empty place or a number above 31. An empty place in the set asks for nothing, and the
 // task itself counts there like any other.
 pub fn demand(table: &Table, task: u8, above: TaskSet, mode: Mode, t: u32) -> Option<u64>
     ensures { λ r. ⌜ r ≡ mapped (λ row. demand mode (now (table .entry) .places) row (above .bits) t) (getD (now (table .entry) .places) task None) ⌝ }

@@ -30,19 +30,24 @@ abbrev pub timeText : Option ℕ → List ℕ
 timeText (Some t) = decimal t
 timeText None = codes "-"
 
+-- one space
 abbrev pub blank : List ℕ
 blank = codes " "
 
+-- the end of a line
 abbrev pub newline : List ℕ
 newline = 10 ∷ []
 
+-- a line of a listing
 unfoldable pub lineText : Line → List ℕ
 lineText l =
     decimal (l .place) ++ blank ++ decimal (l .number) ++ blank ++ letter (l .kind) ∷ [] ++ blank ++ timeText (l .normal) ++ blank ++ timeText (l .abnormal) ++ newline
 
+-- a whole listing
 unfoldable pub listingText : List Line → List ℕ
 listingText ls = codes "order " ++ decimal (length ls) ++ newline ++ joined lineText ls
 
+-- the line of a refusal
 unfoldable pub refusalText : ℕ → List ℕ
 refusalText n = codes "refused " ++ decimal n ++ newline
 

@@ -21,5 +21,6 @@ abbrev pub AnsweredBy : Bool → List ℕ → List ℕ → List ℕ → Result A
 AnsweredBy r t a b (Ok w) = (w .refused ≡ r) × Written t a b (Ok (w .len))
 AnsweredBy r t a b (Err f) = Written t a b (Err f)
 
+-- whatever the file: the text of some refusal or listing
 abbrev pub Answered : List ℕ → List ℕ → Result Answer SpaceFault → Type 0
 Answered a b w = (r : Bool) × (t : List ℕ) × Tells r t × AnsweredBy r t a b w

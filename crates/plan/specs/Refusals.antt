@@ -13,6 +13,7 @@ abbrev pub admitTells : AdmitFault → Refusal
 admitTells (Entry f) = entryTells f
 admitTells (NoOrder n _) = plain 7 layer.Roster n
 
+-- a fault of the file or of an admission is told as it is
 abbrev pub noListingTells : NoListing → Refusal
 noListingTells (File f) = fileTells f
 noListingTells (Admission f) = admitTells f

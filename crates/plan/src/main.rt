@@ -5,16 +5,22 @@ mod label_press;
 mod planning;
 mod roster;
 #[cfg(test)]
-mod tests;
+mod whole_files;
 
 use crate::answer::Answer;
 use crate::answer::write_answer;
+use std::env;
 use std::error::AnyError;
 use std::io::Read;
 use std::io::Write;
 
-// The longest listing has 777 bytes.
+// No listing has more than 777 bytes.
 const SPACE: usize = 1024;
+
+const USAGE: &str = "usage: plan < FILE.roster
+Reads a roster file from standard input and prints the priority order of its tasks:
+place, number, S or T, normal and abnormal response time. A file or a list of tasks
+that is refused gives the line `refused N` and the exit status 1.";
 
 // Whether the file is refused. The refusal is part of the answer: it is written as the listing is.
 fn run(rt: &LibcRuntime) -> Result<bool, AnyError> {
@@ -29,6 +35,10 @@ fn run(rt: &LibcRuntime) -> Result<bool, AnyError> {
 }
 
 fn main(rt: LibcRuntime) -> Result<(), AnyError> {
+    if env::args(&rt)?.nth(1).is_some() {
+        eprintln!(rt, "{USAGE}")?;
+        return Err("an argument is given".into());
+    }
     let refused = rt.report(run(&rt))?;
     if refused {
         return Err("refused".into());

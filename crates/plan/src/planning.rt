@@ -5,6 +5,8 @@ ghost use Rattle.std.specs.Options.{Cases as BySome};
 ghost use Rattle.tasks.specs.Refusals.{plain};
 ghost use Rattle.tasks.specs.Sets.{member};
 ghost use Rattle.tasks.specs.declared.refusal.Layer.the-variants as layer;
+use tasks::kind::Kind;
+use tasks::kind::KindPartialEq;
 use tasks::order::Order;
 use tasks::refusal::Fault;
 use tasks::refusal::Layer;
@@ -50,18 +52,26 @@ fn lowest(table: &Table, left: TaskSet) -> Option<u8>
     ensures { λ r. ⌜ BySome r (Unit {0}) (λ n. member (left .bits) n ≡ true) ⌝ }
 {
     let mut untried = left;
-    while let Some(task) = last_due(table, untried) {
+    let mut strict_failed = false;
+    while let Some((task, kind)) = last_due(table, untried) {
         untried = untried.without(task);
+        let strict = kind == Kind::Strict;
+        // Up to its deadline, which is within its period, a task asks for one job wherever it stands. So all tasks left have the same
+        // demand up to the earliest of their deadlines, and where one strict task fails, those that are due earlier do too.
+        if strict && strict_failed {
+            continue;
+        }
         if is_guaranteed(table, task, left.without(task)) {
             return Some(task);
         }
+        strict_failed |= strict;
     }
     None
 }
 
 // The task with the longest deadline, of equal deadlines the one with the highest number.
-fn last_due(table: &Table, tasks: TaskSet) -> Option<u8>
-    ensures { λ r. ⌜ BySome r (Unit {0}) (λ n. member (tasks .bits) n ≡ true) ⌝ }
+fn last_due(table: &Table, tasks: TaskSet) -> Option<(u8, Kind)>
+    ensures { λ r. ⌜ BySome r (Unit {0}) (λ t. member (tasks .bits) (t .0) ≡ true) ⌝ }
 {
     let mut last = None;
     let mut longest = 0;
@@ -71,7 +81,7 @@ fn last_due(table: &Table, tasks: TaskSet) -> Option<u8>
             && row.deadline >= longest
         {
             longest = row.deadline;
-            last = Some(number);
+            last = Some((number, row.kind));
         }
     }
     last

@@ -21,7 +21,7 @@ use Rattle.tasks.specs.declared.row.Row.{Row}
 use Rattle.tasks.specs.declared.table.Table.{Table}
 use Rattle.tasks.proofs.Sets.{member-zero, member-suc, member-none, member-excluding, bits-from-members}
 use Rattle.schedulability.specs.Laws.{Meaning, Raise, Removal}
-use Rattle.schedulability.specs.Proper.{Proper, proper, present, guarded}
+use Rattle.schedulability.specs.Proper.{Proper, proper, allInUse, guarded}
 
 -- a set with no member has no bits
 no-bits : (h : ℕ) → ((j : ℕ) → member h j ≡ true → ⊥) → h ≡ 0
@@ -31,32 +31,32 @@ even : (h : ℕ) → (h % 2 ≡ 1 → ⊥) → h % 2 ≡ 0
 even h n = grind arith
 
 -- the walk over the places says yes to a set of tasks in use
-present-from : (h : ℕ) (ps : List (Option Row)) → ((j : ℕ) → member h j ≡ true → inUse ps j ≡ true) → present h ps ≡ true
-present-from h [] s = eq-eqb h 0 (no-bits h (λ j y. clash (s j y)))
-present-from h (p ∷ ps) s = and-from _ _ (first (isSome p) refl) (present-from (h / 2) ps (λ j y. s (suc j) (member-suc h j ∙ y))) where
+all-in-use-from : (h : ℕ) (ps : List (Option Row)) → ((j : ℕ) → member h j ≡ true → inUse ps j ≡ true) → allInUse h ps ≡ true
+all-in-use-from h [] s = eq-eqb h 0 (no-bits h (λ j y. clash (s j y)))
+all-in-use-from h (p ∷ ps) s = and-from _ _ (first (isSome p) refl) (all-in-use-from (h / 2) ps (λ j y. s (suc j) (member-suc h j ∙ y))) where
   first : (b : Bool) → isSome p ≡ b → (b || eqb (h % 2) 0) ≡ true
   first true e = refl
   first false e = eq-eqb (h % 2) 0 (even h (λ o. clash (sym e ∙ s 0 (member-zero h ∙ eq-eqb (h % 2) 1 o))))
 
 -- a set that it says yes to has only tasks in use
-present-to : (h : ℕ) (ps : List (Option Row)) → present h ps ≡ true → (j : ℕ) → member h j ≡ true → inUse ps j ≡ true
-present-to h [] e j y = absurd (clash (sym (member-none j) ∙ ap (λ x. member x j) (sym (eqb-true h 0 e)) ∙ y))
-present-to h (p ∷ ps) e zero y = first (isSome p) (and-parts _ _ e .0) where
+all-in-use-to : (h : ℕ) (ps : List (Option Row)) → allInUse h ps ≡ true → (j : ℕ) → member h j ≡ true → inUse ps j ≡ true
+all-in-use-to h [] e j y = absurd (clash (sym (member-none j) ∙ ap (λ x. member x j) (sym (eqb-true h 0 e)) ∙ y))
+all-in-use-to h (p ∷ ps) e zero y = first (isSome p) (and-parts _ _ e .0) where
   first : (b : Bool) → (b || eqb (h % 2) 0) ≡ true → b ≡ true
   first true q = refl
   first false q = absurd (let a = eqb-true (h % 2) 0 q in let b = eqb-true (h % 2) 1 (sym (member-zero h) ∙ y) in omega arith)
-present-to h (p ∷ ps) e (suc j) y = present-to (h / 2) ps (and-parts _ _ e .1) j (sym (member-suc h j) ∙ y)
+all-in-use-to h (p ∷ ps) e (suc j) y = all-in-use-to (h / 2) ps (and-parts _ _ e .1) j (sym (member-suc h j) ∙ y)
 
 -- a yes is the question answered yes
 pub proper-means : (t : Table) (k h : ℕ) → proper t k h ≡ true → Proper t k h
 proper-means t k h e =
     let a = and-parts (inUse (t .places) k) _ e in
     let b = and-parts (not (member h k)) _ (a .1) in
-    (a .0, not-true (member h k) (b .0), present-to h (t .places) (b .1))
+    (a .0, not-true (member h k) (b .0), all-in-use-to h (t .places) (b .1))
 
 -- the question answered yes is a yes
 pub proper-from : (t : Table) (k h : ℕ) → Proper t k h → proper t k h ≡ true
-proper-from t k h (a, b, c) = and-from _ _ a (and-from _ _ (not-from-false (member h k) b) (present-from h (t .places) c))
+proper-from t k h (a, b, c) = and-from _ _ a (and-from _ _ (not-from-false (member h k) b) (all-in-use-from h (t .places) c))
 
 -- the yes or no decides the question
 pub proper-decides : (t : Table) (k h : ℕ) → Decides (proper t k h) (Proper t k h)

@@ -17,13 +17,13 @@ abbrev pub Proper : Table → ℕ → ℕ → Type 0
 Proper t k h = (inUse (t .places) k ≡ true) × (member h k ≡ false) × ((j : ℕ) → member h j ≡ true → inUse (t .places) j ≡ true)
 
 -- each member has a task at its place, the lowest bit at the first place
-abbrev pub present : ℕ → List (Option Row) → Bool
-present h [] = eqb h 0
-present h (p ∷ ps) = (isSome p || eqb (h % 2) 0) && present (h / 2) ps
+abbrev pub allInUse : ℕ → List (Option Row) → Bool
+allInUse h [] = eqb h 0
+allInUse h (p ∷ ps) = (isSome p || eqb (h % 2) 0) && allInUse (h / 2) ps
 
 -- the same as a yes or no
 abbrev pub proper : Meaning
-proper t k h = inUse (t .places) k && (not (member h k) && present h (t .places))
+proper t k h = inUse (t .places) k && (not (member h k) && allInUse h (t .places))
 
 -- a rule with that question before it
 abbrev pub guarded : Meaning → Meaning

@@ -36,3 +36,11 @@ pub struct Rejected<L> {
     pub fault: TestFault,
     pub test: L,
 }
+
+pub impl<L> Fault for Rejected<L> as RejectedTells {
+    ghost tells = { λ e. testTells (e .fault) };
+
+    fn refusal(&self) -> Refusal {
+        self.fault.refusal()
+    }
+}

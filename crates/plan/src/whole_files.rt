@@ -79,6 +79,14 @@ fn refuses_a_wrong_order() -> Result<(), Fail> {
 }
 
 #[test]
+fn refuses_megabytes_of_zeros(rt: LibcRuntime) -> Result<(), Fail> {
+    let mut file = vec![in rt.alloc(); 0; 4_000_000]?;
+    check(file.len() == 4_000_000)?;
+    file[0..47].copy_from_slice(TWO_TASKS);
+    answers(&file, b"refused 19\n")
+}
+
+#[test]
 fn refuses_a_byte_too_many() -> Result<(), Fail> {
     let mut file = [0; 48];
     file[0..47].copy_from_slice(TWO_TASKS);
