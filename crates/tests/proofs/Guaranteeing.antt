@@ -3,32 +3,24 @@ use Prim.Native.Nat.{ℕ}
 use mathlib.Core.Path.{_≡_, refl, sym, subst}
 use mathlib.Core.Bool.{Bool, true, _&&_}
 use native.Mathlib.Omega.{arith}
-use lib.Dec.{leb}
 use lib.ListN.{getD}
 use borrow.Author.Tests.{clash}
-use Rattle.std.proofs.shelf.Tests.{and-parts, and-from, leb-true, le-leb}
+use Rattle.std.proofs.shelf.Tests.{and-parts, and-from}
 use Rattle.std.specs.declared.option.Option.{Option}
 use Rattle.std.specs.declared.option.Option.the-variants.{Some, None}
 use Rattle.tasks.specs.declared.kind.Kind.{Kind}
 use Rattle.tasks.specs.declared.kind.Kind.the-variants.{Tolerable, Strict}
 use Rattle.tasks.specs.declared.row.Row.{Row}
 use Rattle.tasks.specs.declared.table.Table.{Table}
-use Rattle.demand.specs.Demand.{demand, searchEnd}
 use Rattle.demand.specs.Present.{present}
-use Rattle.demand.specs.declared.mode.Mode.{Mode}
 use Rattle.demand.specs.declared.mode.Mode.the-variants.{Normal, Abnormal}
-use Rattle.demand.proofs.Present.{some-at, some-found}
 use Rattle.schedulability.specs.Layers.{byKind, byPlace}
 use Rattle.schedulability.specs.Proper.{proper, guarded}
 use Rattle.schedulability.proofs.Guards.{proper-means, proper-from}
-use Rattle.tests.specs.Guarantee.{guaranteed, Served, Guaranteed}
+use Rattle.tests.specs.Guarantee.{guaranteed, Guaranteed}
+use Rattle.tests.specs.Words.{Served}
+use Rattle.tests.proofs.Wording.{served, serving}
 use Rattle.tests.specs.Rules.{ofTask, responds}
-
-served : (m : Mode) (t : Table) (r : Row) (h : ℕ) → present m (t .places) r h ≡ true → Served m t r h
-served m t r h y = let f = some-found (λ n. leb (demand m (t .places) r h n) n) (searchEnd r) y in (f .0, f .1, f .2, leb-true _ _ (f .3))
-
-serving : (m : Mode) (t : Table) (r : Row) (h : ℕ) → Served m t r h → present m (t .places) r h ≡ true
-serving m t r h (n, a, b, s) = some-at (λ i. leb (demand m (t .places) r h i) i) (searchEnd r) n a b (le-leb _ _ s)
 
 strictly-so : (k : Kind) (b : Bool) → byKind k b ≡ true → k ≡ Strict → b ≡ true
 strictly-so Tolerable b y e = absurd (grind arith)

@@ -2,7 +2,10 @@
 ghost use Prim.Native.Nat.{_+_, _*_, _≤_, _<_};
 ghost use mathlib.Core.Path.{_≡_};
 ghost use lib.ListN.{getD};
+ghost use Rattle.schedulability.specs.Laws.{Alike};
 ghost use Rattle.schedulability.specs.Proper.{guarded};
+ghost use Rattle.std.specs.Orderings.{Decides};
+ghost use Rattle.tests.specs.Words.{LoadSays};
 ghost use Rattle.tests.specs.Rules.{load, loaded, utilization};
 ghost use Rattle.std.specs.Results.{Cases};
 ghost use Rattle.std.specs.declared.option.Option.the-variants.{None};
@@ -36,7 +39,11 @@ impl Load {
 pub impl Test for Load as LoadTest {
     ghost says = { λ s. guarded (loaded (s .limit)) };
 
-    fn passes(&mut self, table: &Table, task: u8, above: TaskSet) -> bool {
+    fn passes(&mut self, table: &Table, task: u8, above: TaskSet) -> bool
+        ensures answer { λ r. ⌜ r ≡ guarded (loaded (now (self .entry) .limit)) (now (table .entry)) task (above .bits) ⌝ }
+        ensures same { λ _. ⌜ Alike (guarded (loaded (now (self .exit) .limit))) (guarded (loaded (now (self .entry) .limit))) ⌝ }
+        ensures means { λ r. ⌜ Decides r (LoadSays (now (self .entry) .limit) (now (table .entry)) task (above .bits)) ⌝ }
+    {
         is_proper(table, task, above) && load_of(table) <= self.limit as u64
     }
 }

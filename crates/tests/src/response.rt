@@ -1,7 +1,10 @@
 // Says yes when the response time in a mode is present.
 ghost use mathlib.Core.Path.{_≡_};
 ghost use Rattle.demand.specs.declared.mode.Mode.the-variants.{Normal, Abnormal};
+ghost use Rattle.schedulability.specs.Laws.{Alike};
 ghost use Rattle.schedulability.specs.Proper.{guarded};
+ghost use Rattle.std.specs.Orderings.{Decides};
+ghost use Rattle.tests.specs.Words.{InTimeSays};
 ghost use Rattle.tests.specs.Rules.{responds};
 use demand::mode::Mode;
 use demand::response;
@@ -36,7 +39,11 @@ impl InTime {
 pub impl Test for InTime as InTimeTest {
     ghost says = { λ s. guarded (responds (s .mode)) };
 
-    fn passes(&mut self, table: &Table, task: u8, above: TaskSet) -> bool {
+    fn passes(&mut self, table: &Table, task: u8, above: TaskSet) -> bool
+        ensures answer { λ r. ⌜ r ≡ guarded (responds (now (self .entry) .mode)) (now (table .entry)) task (above .bits) ⌝ }
+        ensures same { λ _. ⌜ Alike (guarded (responds (now (self .exit) .mode))) (guarded (responds (now (self .entry) .mode))) ⌝ }
+        ensures means { λ r. ⌜ Decides r (InTimeSays (now (self .entry) .mode) (now (table .entry)) task (above .bits)) ⌝ }
+    {
         is_proper(table, task, above) && response(table, task, above, self.mode).is_some()
     }
 }

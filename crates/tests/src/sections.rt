@@ -1,7 +1,10 @@
 // Says yes when the normal demand and the longest section of a task below are met by the deadline.
 ghost use Prim.Native.Nat.{_≤_};
 ghost use mathlib.Core.Path.{_≡_};
+ghost use Rattle.schedulability.specs.Laws.{Alike};
 ghost use Rattle.schedulability.specs.Proper.{guarded};
+ghost use Rattle.std.specs.Orderings.{Decides};
+ghost use Rattle.tests.specs.Words.{SectionsSays};
 ghost use Rattle.tests.specs.Rules.{unblocked, blocking, sectionBelow};
 use demand::least_covering;
 use demand::mode::Mode;
@@ -17,7 +20,11 @@ pub struct Sections;
 pub impl Test for Sections as SectionsTest {
     ghost says = { λ _. guarded unblocked };
 
-    fn passes(&mut self, table: &Table, task: u8, above: TaskSet) -> bool {
+    fn passes(&mut self, table: &Table, task: u8, above: TaskSet) -> bool
+        ensures answer { λ r. ⌜ r ≡ guarded unblocked (now (table .entry)) task (above .bits) ⌝ }
+        ensures same { λ _. ⌜ Alike (guarded unblocked) (guarded unblocked) ⌝ }
+        ensures means { λ r. ⌜ Decides r (SectionsSays (now (table .entry)) task (above .bits)) ⌝ }
+    {
         if !is_proper(table, task, above) {
             return false;
         }
