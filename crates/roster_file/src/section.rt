@@ -34,24 +34,27 @@ pub(crate) trait Section: Sized {
     // why bytes at an offset are no entry
     ghost undecodable: { List ℕ → ℕ → FileFault → Type 0 };
 
-    // The width, as clauses can name it.
-    fn entry_len() -> usize
-        ensures { λ r. ⌜ r ≡ width ⌝ };
-
     // the section has kept these entries
     ghost holds: { Self → List Self·Entry → Type 0 };
 
     // why the entry at an offset is not kept
     ghost rejects: { Self → Self·Entry → ℕ → FileFault → Type 0 };
 
+    // The width, as clauses can name it.
+    fn entry_len() -> usize
+        ensures { λ r. ⌜ r ≡ width ⌝ };
+
+    // A section with no entry yet.
     fn start() -> Self
         ensures { λ r. ⌜ holds r [] ⌝ };
 
+    // The entry whose bytes stand at an offset of the file.
     fn decode(bytes: &[u8], offset: usize) -> Result<Self::Entry, FileFault>
         requires whole { ⌜ length (now bytes) ≡ width ⌝ }
         requires inside { ⌜ offset + width < 2 ^ 64 ⌝ }
         ensures { λ r. ⌜ Cases r (λ e. (now (bytes .entry) ≡ encoded e) × fits e) (undecodable (now (bytes .entry)) offset) ⌝ };
 
+    // Takes in the entry that stood at an offset.
     fn keep(&mut self, entry: Self::Entry, offset: usize) -> Result<(), FileFault>
         ensures { λ r. ⌜ Cases r (λ _. (es : List Self·Entry) → holds (now (self .entry)) es → holds (now (self .exit)) (es ++ (entry ∷ []))) (rejects (now (self .entry)) entry offset) ⌝ };
 }
