@@ -6,15 +6,15 @@ ghost use lib.ListN.{length};
 ghost use Rattle.listing.specs.Texts.{refusalText};
 ghost use Rattle.plan.specs.Answers.{Answered, AnsweredBy};
 ghost use Rattle.plan.specs.Refusals.{noListingTells};
-ghost use Rattle.plan.specs.declared.answer.NoListing.the-variants.{File, Admission};
+ghost use Rattle.plan.specs.declared.answer.NoListing.the-variants.{File, NoOrder};
 ghost use Rattle.roster_file.specs.Layout.{Refused};
 ghost use Rattle.roster_file.specs.Refusals.{fileTells};
 ghost use Rattle.roster_file.specs.declared.fault.FileFault.{FileFault};
 ghost use Rattle.std.specs.Vec.{made};
 ghost use Rattle.std.specs.declared.result.Result.the-variants.{Err};
-use crate::roster::AdmitFault;
-use crate::roster::AdmitFaultTells;
-use crate::roster::Roster;
+use crate::planning::PlanFault;
+use crate::planning::PlanFaultTells;
+use crate::planning::plan;
 use demand::mode::Mode;
 use demand::response;
 use listing::line::Line;
@@ -35,7 +35,7 @@ use tasks::table::Table;
 #[derive(Clone, Copy)]
 pub(crate) enum NoListing {
     File(FileFault),
-    Admission(AdmitFault),
+    NoOrder(PlanFault),
 }
 
 pub(crate) impl From<FileFault> for NoListing as NoListingFromFile {
@@ -46,11 +46,11 @@ pub(crate) impl From<FileFault> for NoListing as NoListingFromFile {
     }
 }
 
-pub(crate) impl From<AdmitFault> for NoListing as NoListingFromAdmission {
-    ghost converts = { λ e r. r ≡ Admission e };
+pub(crate) impl From<PlanFault> for NoListing as NoListingFromPlan {
+    ghost converts = { λ e r. r ≡ NoOrder e };
 
-    fn from(e: AdmitFault) -> NoListing {
-        NoListing::Admission(e)
+    fn from(e: PlanFault) -> NoListing {
+        NoListing::NoOrder(e)
     }
 }
 
@@ -60,7 +60,7 @@ pub(crate) impl Fault for NoListing as NoListingTells {
     fn refusal(&self) -> Refusal {
         match self {
             NoListing::File(fault) => fault.refusal(),
-            NoListing::Admission(fault) => fault.refusal(),
+            NoListing::NoOrder(fault) => fault.refusal(),
         }
     }
 }
@@ -92,14 +92,23 @@ pub(crate) fn write_answer(file: &[u8], space: &mut [u8]) -> Result<Answer, Spac
     }
 }
 
-// The order that a file carries is checked, and not used.
+// A table of tasks and the order in which all of them pass.
+#[derive(Clone, Copy)]
+struct Roster {
+    table: Table,
+    order: Order,
+}
+
+// The order that a file carries is checked, and not used. An order of all tasks gives one for every part of them, so admitting them one
+// by one, by rising number, ends as planning them together does.
 fn planned(file: &[u8]) -> Result<Roster, NoListing>
     ensures { λ r. ⌜ ((f : FileFault) → Refused (now (file .entry)) f → r ≡ Err (File f)) ⌝ }
 {
     let mut table = Table::empty();
     let mut order = Order::empty();
     read(file, &mut table, &mut order)?;
-    Ok(Roster::of(&table)?)
+    let order = plan(&table)?;
+    Ok(Roster { table, order })
 }
 
 fn lines(roster: &Roster) -> Lines {

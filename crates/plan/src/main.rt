@@ -3,7 +3,6 @@ mod answer;
 #[cfg(test)]
 mod label_press;
 mod planning;
-mod roster;
 #[cfg(test)]
 mod whole_files;
 

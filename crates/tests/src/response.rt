@@ -6,6 +6,7 @@ ghost use Rattle.schedulability.specs.Proper.{guarded};
 ghost use Rattle.std.specs.Orderings.{Decides};
 ghost use Rattle.tests.specs.Words.{InTimeSays};
 ghost use Rattle.tests.specs.Rules.{responds};
+use demand::demand;
 use demand::mode::Mode;
 use demand::response;
 use schedulability::proper::is_proper;
@@ -44,6 +45,22 @@ pub impl Test for InTime as InTimeTest {
         ensures same { λ _. ⌜ Alike (guarded (responds (now (self .exit) .mode))) (guarded (responds (now (self .entry) .mode))) ⌝ }
         ensures means { λ r. ⌜ Decides r (InTimeSays (now (self .entry) .mode) (now (table .entry)) task (above .bits)) ⌝ }
     {
-        is_proper(table, task, above) && response(table, task, above, self.mode).is_some()
+        is_proper(table, task, above) && is_in_time(table, task, above, self.mode)
     }
+}
+
+// Whether some time up to the deadline serves. The deadline itself is asked first: it costs one sum, and most tasks that are in time
+// are served by it.
+fn is_in_time(table: &Table, task: u8, above: TaskSet, mode: Mode) -> bool
+    ensures { λ r. ⌜ r ≡ responds mode (now (table .entry)) task (above .bits) ⌝ }
+{
+    let Some(row) = table.row(task) else {
+        return false;
+    };
+    if let Some(asked) = demand(table, task, above, mode, row.deadline)
+        && asked <= row.deadline as u64
+    {
+        return true;
+    }
+    response(table, task, above, mode).is_some()
 }

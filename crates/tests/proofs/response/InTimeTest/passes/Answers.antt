@@ -1,10 +1,8 @@
 use mathlib.Core.Path.{refl, sym, _∙_}
-use lib.ListN.{getD}
-use Rattle.std.specs.declared.option.Option.the-variants.{None}
-use Rattle.tests.specs.Rules.{responds}
 use Rattle.std.proofs.shelf.Ways.{decides-at}
+use Rattle.tests.specs.Rules.{responds}
+use Rattle.tests.proofs.Answers.{after-proper}
 use Rattle.tests.proofs.Wording.{in-time-words}
-use Rattle.tests.proofs.Answers.{response-says, after-proper}
 use Rattle.tests.proofs.response.InTimeTest.passes.Needs as need
 
 pub returns-then-is-proper : need.returns-then-is-proper
@@ -13,5 +11,5 @@ returns-then-is-proper c =
     let k = c .args .task in
     let h = c .args .above .bits in
     let m = c .args .self .now .mode in
-    let e = c .is-some .ensures ∙ response-says m (t .places) h (getD (t .places) k None) (c .response .result) (c .response .ensures) ∙ sym (after-proper (responds m) t k h (sym (c .if-is-proper .ensures tt .value))) in
+    let e = c .is-in-time .ensures ∙ sym (after-proper (responds m) t k h (sym (c .if-is-proper .ensures tt .value))) in
     record { answer = e; same = λ u i g. refl; means = decides-at _ _ e (in-time-words m t k h) }
