@@ -1,17 +1,16 @@
--- More time asks for no less; fewer tasks ask for no more, and keep a response time. Assumes nothing.
-use mathlib.Core.Path.{_≡_, refl, sym, ap, _∙_}
+-- More time asks for no less; fewer tasks ask for no more. Assumes nothing.
+use mathlib.Core.Path.{_≡_, sym, ap, _∙_}
 use mathlib.Core.Logic.{inl, inr}
 use mathlib.Core.Bool.{true}
 use mathlib.Core.List.{List, [], _∷_}
 use Prim.Native.Nat.{ℕ, zero, suc, _+_, _/_, _%_, _≤_, zero-le}
 use native.Mathlib.Omega.{arith}
-use native.Mathlib.Nat.{le-refl, le-trans, mul-le-mul-left}
+use native.Mathlib.Nat.{le-refl, mul-le-mul-left}
 use lib.ListN.{getD, set}
 use Rattle.demand.proofs.Rounding.{ceil-mono}
-use Rattle.demand.specs.Demand.{cost, share, interference, demand, IsResponse}
+use Rattle.demand.specs.Demand.{cost, share, interference, demand}
 use Rattle.demand.specs.declared.mode.Mode.{Mode}
 use Rattle.std.proofs.shelf.Tests.{cases-lt, eqb-true, eq-eqb}
-use Rattle.std.specs.Options.{isSome}
 use Rattle.std.specs.declared.option.Option.{Option}
 use Rattle.std.specs.declared.option.Option.the-variants.{Some, None}
 use Rattle.tasks.proofs.Members.{members-odd, members-even}
@@ -26,9 +25,6 @@ share-mono m None s t l = le-refl 0
 pub interference-mono : (m : Mode) (ps : List (Option Row)) (js : List ℕ) (s t : ℕ) → s ≤ t → interference m ps js s ≤ interference m ps js t
 interference-mono m ps [] s t l = le-refl 0
 interference-mono m ps (j ∷ js) s t l = omega (arith, share-mono m (getD ps j None) s t l, interference-mono m ps js s t l)
-
-pub demand-mono : (m : Mode) (ps : List (Option Row)) (r : Row) (h s t : ℕ) → s ≤ t → demand m ps r h s ≤ demand m ps r h t
-demand-mono m ps r h s t l = omega (arith, interference-mono m ps (members h) s t l)
 
 -- ---- fewer tasks above
 
@@ -74,17 +70,3 @@ interference-emptied m ps j (i ∷ is) t = omega (arith, share-emptied m t ps j 
 
 pub demand-emptied : (m : Mode) (ps : List (Option Row)) (j : ℕ) (r : Row) (h t : ℕ) → demand m (set ps j None) r h t ≤ demand m ps r h t
 demand-emptied m ps j r h t = omega (arith, interference-emptied m ps j (members h) t)
-
--- ---- a response time stays present
-
--- where the demand is more at no time
-pub response-below : (m : Mode) (ps qs : List (Option Row)) (r : Row) (a b : ℕ) → ((t : ℕ) → demand m qs r b t ≤ demand m ps r a t) → (x y : Option ℕ) → IsResponse m ps r a x → IsResponse m qs r b y → isSome x ≡ true → isSome y ≡ true
-response-below m ps qs r a b l x (Some v) i k e = refl
-response-below m ps qs r a b l (Some u) None i k e = absurd (k (i .0) (i .2 .0) (i .2 .1) (le-trans (l (i .0)) (i .2 .2)))
-response-below m ps qs r a b l None None i k e = e
-
-pub response-within : (m : Mode) (ps : List (Option Row)) (r : Row) (a b : ℕ) → Within a b → (x y : Option ℕ) → IsResponse m ps r b x → IsResponse m ps r a y → isSome x ≡ true → isSome y ≡ true
-response-within m ps r a b w = response-below m ps ps r b a (λ t. demand-within m ps r a b t w)
-
-pub response-emptied : (m : Mode) (ps : List (Option Row)) (j : ℕ) (r : Row) (h : ℕ) (x y : Option ℕ) → IsResponse m ps r h x → IsResponse m (set ps j None) r h y → isSome x ≡ true → isSome y ≡ true
-response-emptied m ps j r h = response-below m ps (set ps j None) r h h (λ t. demand-emptied m ps j r h t)

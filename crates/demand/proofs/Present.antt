@@ -8,7 +8,7 @@ use native.Mathlib.Omega.{arith}
 use native.Mathlib.Nat.{le-trans}
 use lib.ListN.{set}
 use Rattle.demand.proofs.Monotone.{Within, demand-within, demand-emptied}
-use Rattle.demand.specs.Demand.{demand, Least, IsLeast, Serves, IsResponse, searchEnd, told}
+use Rattle.demand.specs.Demand.{demand, IsLeast, Serves, IsResponse, searchEnd}
 use Rattle.demand.specs.Present.{someUpTo, present}
 use Rattle.demand.specs.declared.mode.Mode.{Mode}
 use Rattle.std.proofs.shelf.Tests.{cases-bool, cases-lt, or-cases, or-left, or-right, both-ways, leb-true, le-leb}
@@ -44,19 +44,7 @@ least-present P p d end None n = elim (cases-bool (someUpTo p end)) [
   | inr e ↦ sym e
 ]
 
-pub least-unique : (P : ℕ → Type 0) (end s t : ℕ) → Least P end s → Least P end t → s ≡ t
-least-unique P end s t l k = elim (cases-lt s t) [
-  | inl q ↦ absurd (k .3 s (l .0) q (l .2))
-  | inr q ↦ elim (cases-lt t s) [ inl w ↦ absurd (l .3 t (k .0) w (k .2)) | inr w ↦ omega arith ]
-]
-
 -- ---- response times
-
-pub response-unique : (m : Mode) (ps : List (Option Row)) (r : Row) (h : ℕ) (x y : Option ℕ) → IsResponse m ps r h x → IsResponse m ps r h y → x ≡ y
-response-unique m ps r h (Some u) (Some v) i k = ap Some (i .1 ∙ ap (told r) (least-unique (Serves m ps r h) (searchEnd r) (i .0) (k .0) (i .2) (k .2)) ∙ sym (k .1))
-response-unique m ps r h (Some u) None i k = absurd (k (i .0) (i .2 .0) (i .2 .1) (i .2 .2))
-response-unique m ps r h None (Some v) i k = absurd (i (k .0) (k .2 .0) (k .2 .1) (k .2 .2))
-response-unique m ps r h None None i k = refl
 
 pub response-present : (m : Mode) (ps : List (Option Row)) (r : Row) (h : ℕ) (x : Option ℕ) → IsResponse m ps r h x → isSome x ≡ present m ps r h
 response-present m ps r h (Some u) i = least-present (Serves m ps r h) _ (λ t. (leb-true _ t, le-leb _ t)) (searchEnd r) (Some (i .0)) (i .2)

@@ -9,7 +9,7 @@ use native.Mathlib.Omega.{arith}
 use lib.Bits.{bitOr, or-step, or-zero-r}
 use lib.Dec.{eqb, eqb·zero-suc, eqb·suc-zero, eqb·suc-suc}
 use Rattle.std.proofs.shelf.Bits.{shr-shr, one-shl}
-use Rattle.std.proofs.shelf.Tests.{cases-bool, cases-lt, both-ways, eqb-true, cond-true, cond-false, cond-both, and-right, or-right}
+use Rattle.std.proofs.shelf.Tests.{cases-bool, cases-lt, both-ways, eqb-true, cond-true, cond-false, and-right, or-right}
 use Rattle.std.proofs.shelf.Ways.{tells}
 use Rattle.tasks.specs.Sets.{member, including, excluding}
 
@@ -100,9 +100,6 @@ sub-fits w h n l e = omega (arith, one-shl n w l, member-le h n e)
 pub sub-excluding : (w h n : ℕ) → n < w → member h n ≡ true → h - (1 * 2 ^ n) % 2 ^ w ≡ excluding h n
 sub-excluding w h n l e = ap (λ x. h - x) (one-shl n w l) ∙ sym (cond-true (member h n) (h - 2 ^ n) h e)
 
-pub excluding-le : (h n : ℕ) → excluding h n ≤ h
-excluding-le h n = cond-both (member h n) (h - 2 ^ n) h (λ x. x ≤ h) (λ _. omega arith) (λ _. omega arith)
-
 -- ---- a set with a task
 
 pub including-zero : (h : ℕ) → including h 0 ≡ h / 2 * 2 + 1
@@ -123,11 +120,6 @@ member-including h (suc n) zero =
 member-including h (suc n) (suc j) =
     ap (λ x. member x (suc j)) (including-suc h n) ∙ member-high (including (h / 2) n) (h % 2) j (omega arith) ∙ member-including (h / 2) n j
     ∙ ap (λ x. x || eqb j n) (sym (member-suc h j)) ∙ ap (λ x. member h (suc j) || x) (sym (eqb·suc-suc j n))
-
-pub including-below : (w h n : ℕ) → h < 2 ^ w → n < w → including h n < 2 ^ w
-including-below zero h n l m = absurd (omega arith)
-including-below (suc w) h zero l m = omega (arith, including-zero h, pow-suc 2 w)
-including-below (suc w) h (suc n) l m = let r = including-below w (h / 2) n (omega (arith, pow-suc 2 w)) (omega arith) in omega (arith, including-suc h n, pow-suc 2 w)
 
 or-step-including : (h n : ℕ) → bitOr h (2 ^ n) ≡ including h n
 or-step-including h zero = or-step h 1 ∙ ap (λ x. x * 2 + max (h % 2) 1) (or-zero-r (h / 2)) ∙ omega (arith, including-zero h)

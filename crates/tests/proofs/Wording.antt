@@ -23,8 +23,8 @@ use Rattle.demand.proofs.Present.{some-at, some-found}
 use Rattle.schedulability.specs.Laws.{Meaning}
 use Rattle.schedulability.specs.Proper.{Proper, proper, guarded}
 use Rattle.schedulability.proofs.Guards.{proper-means, proper-from}
-use Rattle.tests.specs.Rules.{ofTask, responds, largest, sectionAt, sectionBelow, blocking, unblocked, load, loaded}
-use Rattle.tests.specs.Words.{Served, InTimeSays, ServesBehind, SectionsSays, LoadSays}
+use Rattle.tests.specs.Rules.{ofTask, responds, largest, sectionAt, sectionBelow, blocking, unblocked}
+use Rattle.tests.specs.Words.{Served, InTimeSays, ServesBehind, SectionsSays}
 
 pub served : (m : Mode) (t : Table) (r : Row) (h : ℕ) → present m (t .places) r h ≡ true → Served m t r h
 served m t r h y = let f = some-found (λ n. leb (demand m (t .places) r h n) n) (searchEnd r) y in (f .0, f .1, f .2, leb-true _ _ (f .3))
@@ -50,9 +50,6 @@ in-time-words m t k h =
     guarded-words (responds m) t k h ((r : Row) × (getD (t .places) k None ≡ Some r) × Served m t r h)
     (λ _ y. to-row (λ r. present m (t .places) r h) (λ r. Served m t r h) (λ r. (served m t r h, serving m t r h)) (getD (t .places) k None) (getD (t .places) k None) refl y)
     (from-row (λ r. present m (t .places) r h) (λ r. Served m t r h) (λ r. (served m t r h, serving m t r h)) (getD (t .places) k None))
-
-pub load-words : (limit : ℕ) (t : Table) (k h : ℕ) → Decides (guarded (loaded limit) t k h) (LoadSays limit t k h)
-load-words limit t k h = guarded-words (loaded limit) t k h (load (t .places) ≤ limit) (λ _ y. leb-true _ _ y) (λ l. le-leb _ _ l)
 
 -- the largest is at most x where each is
 largest-under : (n : ℕ) (f : ℕ → ℕ) (x : ℕ) → ((j : ℕ) → f j ≤ x) → largest n f ≤ x
