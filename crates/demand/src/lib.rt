@@ -1,4 +1,6 @@
 // What a task asks of the processor below a set of tasks, and its response time.
+#![tactic(auto)]
+
 ghost use Rattle.std.specs.Prelude.{◌≡◌, ℕ, ◌+◌, ◌*◌, ◌<◌, ◌≤◌, None, MatchOption, slice_index_or};
 ghost use Rattle.demand.specs.Demand.{releases, cost, share, interference, demand, Covers, IsLeast, IsResponse};
 ghost use Rattle.std.specs.Option.{option_map};

@@ -1,5 +1,7 @@
 // Counts the demand sums that the search for a response time makes below bad sets of tasks, with the longest deadline. The counts are
 // measured here, over the public call of the library, and not proved.
+#![tactic(auto)]
+
 ghost use Rattle.std.specs.Prelude.{◌≡◌};
 
 use anyhow::anyhow;

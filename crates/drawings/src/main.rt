@@ -1,5 +1,6 @@
 // Draws timetables and holds each to what it is to be: a case worked by hand, refusals, thousands of small job lists against a drawing
 // that goes tick by tick, and the longest job lists against finishes known beforehand. Ends with an error at the first difference.
+#![tactic(auto)]
 
 mod lists;
 mod long;

@@ -1,4 +1,6 @@
 // Reads the roster files of cases.txt, one to a line as `name;hex`, and prints what became of each.
+#![tactic(auto)]
+
 ghost use Rattle.std.specs.Prelude.{◌<◌, IfOk};
 
 use anyhow::anyhow;

@@ -1,4 +1,6 @@
 // Damages roster files in every byte and by every cut, and holds what the library says of each against a second reader.
+#![tactic(auto)]
+
 mod plain;
 
 use crate::plain::holds;

@@ -1,4 +1,6 @@
 // Writes rosters and reads them back: tables of 0, 1, 2 and 32 tasks, and the tasks of the shipped examples.
+#![tactic(auto)]
+
 use anyhow::anyhow;
 use roster_file::read::read;
 use roster_file::round_trip::rewrite;

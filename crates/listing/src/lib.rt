@@ -1,4 +1,6 @@
 // The listing of a plan as lines, and as bytes written into space handed in.
+#![tactic(auto)]
+
 pub mod line;
 pub mod lines;
 pub mod text;

@@ -1,5 +1,7 @@
 // Compares the plan of small tables with every order of their tasks, and the judging of every order with asking at each place, for
 // several tests. What agrees here is measured, and not proved.
+#![tactic(auto)]
+
 mod cases;
 mod compare;
 mod naive;

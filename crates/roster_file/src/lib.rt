@@ -1,4 +1,6 @@
 // Reads and writes roster files: the tasks of a machine and the order of their priorities, as bytes.
+#![tactic(auto)]
+
 pub mod fault;
 mod order_section;
 pub mod read;

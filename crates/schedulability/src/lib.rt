@@ -1,4 +1,6 @@
 // The interface of schedulability tests, and layers that are tests over any tests.
+#![tactic(auto)]
+
 pub mod fault;
 pub mod pair;
 pub mod proper;

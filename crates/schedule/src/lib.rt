@@ -1,4 +1,6 @@
 // Jobs, the schedule that an order of tasks gives them, and what the analysis of demand says of it.
+#![tactic(auto)]
+
 ghost use Rattle.schedule.specs.Analysis.{AnalysisSound};
 ghost use Rattle.schedule.specs.Existence.{OneSchedule};
 

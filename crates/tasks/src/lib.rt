@@ -1,4 +1,6 @@
 // Tasks, tables of tasks, sets and orders of tasks, and how a refusal is told.
+#![tactic(auto)]
+
 pub mod change;
 pub mod entry;
 pub mod fault;
