@@ -1,5 +1,4 @@
-use Rattle.std.proofs.Common.{◌≡◌, ℕ, ◌-◌, ◌≤◌, List, ◌++◌, reverse, length, take, sym, refl, ap, ◌∙◌, arith}
-use borrow.Rule.Slice.PartMut.{post_of}
+use Rattle.std.proofs.Common.{◌≡◌, ℕ, ◌-◌, ◌≤◌, List, reverse, length, take, refl, ap, ◌∙◌, arith}
 use Rattle.std.proofs.lemmas.List.{take_at, length-append, length-drop, length-take-le, length-reverse}
 use Rattle.tasks.proofs.order.Order.reversed.Goals as goal
 
@@ -10,12 +9,12 @@ front n xs ys l e =
     let f = e ∙ ap (λ m. reverse (take m xs)) whole in
     (ap length f ∙ length-reverse (take n xs) ∙ length-take-le n xs l, f)
 
-pub invariant-of-result : goal.invariant-of-result
-invariant-of-result c =
+pub invariant_of-result : goal.invariant_of-result
+invariant_of-result c =
     let o = c.args.self.now in
     let ys = c.reverse.new.self in
     let f = front o.len o.numbers ys (omega (arith, o.full, o.few)) c.reverse.ensures.after in
-    (length-append ys _ ∙ omega (arith, o.full, o.few, f.0, length-drop (o.len - 0) o.numbers), (o.few, tt))
+    record { full = length-append ys _ ∙ omega (arith, o.full, o.few, f.0, length-drop (o.len - 0) o.numbers); few = o.few }
 
 pub returns : goal.returns
 returns c =

@@ -3,11 +3,11 @@ use Rattle.tasks.specs.Sets.{member}
 use Rattle.tasks.proofs.Sets.{member_in, sub_fits, sub_excluding, member_excluding}
 use Rattle.tasks.proofs.set.TaskSet.without.Goals as goal
 
-pub overflow-shl-result : goal.overflow-shl-result
-overflow-shl-result c = member_in 32 c.args.self.bits c.args.number (omega arith) (sym c.if-not-contains.ensures)
+pub overflow_shl-result : goal.overflow_shl-result
+overflow_shl-result c = member_in 32 c.args.self.bits c.args.number (omega arith) (sym c.if-not-contains.ensures)
 
-pub overflow-sub-result : goal.overflow-sub-result
-overflow-sub-result c =
+pub overflow_sub-result : goal.overflow_sub-result
+overflow_sub-result c =
     let h = c.args.self.bits in
     let n = c.args.number in
     let e = sym c.if-not-contains.ensures in

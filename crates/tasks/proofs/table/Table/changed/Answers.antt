@@ -11,23 +11,20 @@ loop-i-preserved g c =
     let t = c.args.self.now in
     let l = c.loop-i in
     let f = g.C.Change.changed c.args.by.now in
-    ap (set l.places l.i) c.changed-place.ensures ∙ turn (option_map f) t.places l.places l.i None (omega (arith, t.full)) l.invariant
+    ap (set l.places l.i) c.changed_place.ensures ∙ turn (option_map f) t.places l.places l.i None (omega (arith, t.full)) l.invariant
 
-pub invariant-of-result : goal.invariant-of-result
-invariant-of-result g c =
+pub invariant_of-result : goal.invariant_of-result
+invariant_of-result g c =
     let t = c.args.self.now in
     let s = c.args.by.now in
     let f = g.C.Change.changed s in
-    let e : c.loop-i.places ≡ changed_places f t.places = whole (option_map f) t.places c.loop-i.places c.loop-i.i (omega (arith, t.full)) c.loop-i.invariant in (
-      ap length e ∙ length-map _ _ ∙ t.full,
-      (
-        subst (Every Times) (sym e) (every_changed Times f t.places (λ n r q. (g.met.C.Change.bounded s r (t.times n r q, t.window n r q, t.section n r q)).0)),
-        (
-          subst (Every Window) (sym e) (every_changed Window f t.places (λ n r q. (g.met.C.Change.bounded s r (t.times n r q, t.window n r q, t.section n r q)).1)),
-          (subst (Every Section) (sym e) (every_changed Section f t.places (λ n r q. (g.met.C.Change.bounded s r (t.times n r q, t.window n r q, t.section n r q)).2)), tt),
-        ),
-      ),
-    )
+    let e : c.loop-i.places ≡ changed_places f t.places = whole (option_map f) t.places c.loop-i.places c.loop-i.i (omega (arith, t.full)) c.loop-i.invariant in
+    record {
+      full = ap length e ∙ length-map _ _ ∙ t.full;
+      times = subst (Every Times) (sym e) (every_changed Times f t.places (λ n r q. (g.met.C.Change.bounded s r (t.times n r q, t.window n r q, t.section n r q)).0));
+      window = subst (Every Window) (sym e) (every_changed Window f t.places (λ n r q. (g.met.C.Change.bounded s r (t.times n r q, t.window n r q, t.section n r q)).1));
+      section = subst (Every Section) (sym e) (every_changed Section f t.places (λ n r q. (g.met.C.Change.bounded s r (t.times n r q, t.window n r q, t.section n r q)).2));
+    }
 
 pub returns : goal.returns
 returns g c =

@@ -3,5 +3,5 @@ use Rattle.tasks.specs.Bounds.{Times, Window, Section}
 use Rattle.tasks.proofs.Places.{every_none}
 use Rattle.tasks.proofs.table.Table.empty.Goals as goal
 
-pub invariant-of-result : goal.invariant-of-result
-invariant-of-result c = (refl, (every_none Times 32, (every_none Window 32, (every_none Section 32, tt))))
+pub invariant_of-result : goal.invariant_of-result
+invariant_of-result c = record { full = refl; times = every_none Times 32; window = every_none Window 32; section = every_none Section 32 }

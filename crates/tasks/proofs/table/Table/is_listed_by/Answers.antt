@@ -16,4 +16,4 @@ loop-number-preserved c =
     (sym c.if-not-contains.ensures) c.without-left.ensures.members
 
 pub returns : goal.returns
-returns c = Decides-at _ _ c.is-empty.ensures.bits (left_end c.args.numbers.now c.loop-number.number-index c.loop-number.left.bits c.args.self.now.places (omega arith) c.loop-number.invariant)
+returns c = Decides-at _ _ c.is_empty.ensures.bits (left_end c.args.numbers.now c.loop-number.number-index c.loop-number.left.bits c.args.self.now.places (omega arith) c.loop-number.invariant)
