@@ -12,9 +12,9 @@ loop-number-preserved c =
     let m = c.args.mode in
     let ps = c.args.table.now.places in
     let e = c.in-Some.ensures.0 in
-    let n : length (members c.loop-number.rest.bits) ≡ suc (length (members c.take-lowest.new.self.bits)) = ap length e in (
+    let n : length (members c.loop-number.rest.bits) ≡ suc (length (members c.take_lowest.new.self.bits)) = ap length e in (
       λ t.
-          let i : interference m ps (members c.loop-number.rest.bits) t ≡ share m t (get_or ps c.in-Some.number None) + interference m ps (members c.take-lowest.new.self.bits) t = ap (λ js. interference m ps js t) e in
+          let i : interference m ps (members c.loop-number.rest.bits) t ≡ share m t (get_or ps c.in-Some.number None) + interference m ps (members c.take_lowest.new.self.bits) t = ap (λ js. interference m ps js t) e in
           omega (arith, c.loop-number.invariant.0 t, c.rate-sum.ensures.rate t, mul-add t c.loop-number.sum c.rate-sum.result),
       omega (arith, c.loop-number.invariant.1, c.rate-sum.ensures.bound, n),
     )

@@ -13,8 +13,8 @@ returns-then-not-contains c =
     let h = c.args.above.bits in
     let used : in_use t.places k ≡ true = search rules in
     let apart : member h k ≡ false = search rules in
-    let s = c.is-subset-of.ensures in
-    let m : Decides c.is-subset-of.result (Proper t k h) = (
+    let s = c.is_subset_of.ensures in
+    let m : Decides c.is_subset_of.result (Proper t k h) = (
       λ y. (used, apart, λ j i. sym (c.tasks.ensures j) ∙ s.0 y j i),
       λ p. s.1 (λ j i. c.tasks.ensures j ∙ p.2 j i),
     ) in
