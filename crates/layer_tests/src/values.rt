@@ -16,7 +16,7 @@ use tests::load::Load;
 use tests::response::InTime;
 use tests::sections::Sections;
 
-fn of_value(number: u8, value: usize) -> Refusal {
+fn pile(number: u8, value: usize) -> Refusal {
     Refusal {
         number,
         layer: Layer::Pile,
@@ -53,7 +53,7 @@ fn load_refused(rt: &impl Abort, limit: u32) -> Result<(), Fail> {
         return Err(Fail::new("the limit is taken"));
     };
     assert_eq!(rt; fault, TestFault::Limit(limit));
-    assert_eq!(rt; fault.refusal(), of_value(22, limit as usize));
+    assert_eq!(rt; fault.refusal(), pile(22, limit as usize));
     Ok(())
 }
 
@@ -69,7 +69,7 @@ fn reserve_out_of_bounds(rt: HostRuntime) -> Result<(), Fail> {
         return Err(Fail::new("the reserve is taken"));
     };
     assert_eq!(rt; rejected.fault, TestFault::Reserve(1_000_001));
-    assert_eq!(rt; rejected.fault.refusal(), of_value(21, 1_000_001));
+    assert_eq!(rt; rejected.fault.refusal(), pile(21, 1_000_001));
     Ok(())
 }
 

@@ -29,17 +29,13 @@ abbrev pub kind_byte : Kind → ℕ
 kind_byte Tolerable = 0
 kind_byte Strict = 1
 
--- the times of a task, in the sequence of the file
-abbrev pub times : List (Row → ℕ)
-times = (λ r. r.normal) ∷ (λ r. r.abnormal) ∷ (λ r. r.section) ∷ (λ r. r.deadline) ∷ (λ r. r.period) ∷ []
-
--- the times of a row
+-- the times of a row in the sequence of the file
 abbrev pub fields : Row → List ℕ
-fields r = map (λ (time : Row → ℕ). time r) times
+fields r = r.normal ∷ r.abnormal ∷ r.section ∷ r.deadline ∷ r.period ∷ []
 
--- how many bytes a task takes: its number, its kind, and four for each time
+-- how many bytes a task takes: its number, its kind, and four for each of five times
 abbrev pub task_width : ℕ
-task_width = 2 + 4 * length times
+task_width = 22
 
 -- the entry of a task with this number and this row
 abbrev pub task_of : ℕ → Row → TaskEntry

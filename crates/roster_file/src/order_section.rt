@@ -1,7 +1,7 @@
 // The order of a file: task numbers of one byte each.
-ghost use Rattle.std.specs.Prelude.{◌<◌};
+ghost use Rattle.std.specs.Prelude.{◌<◌, [], ◌∷◌};
 ghost use Rattle.tasks.specs.Listed.{listed};
-ghost use Rattle.roster_file.specs.Entries.{number_bytes, KeptNumbers};
+ghost use Rattle.roster_file.specs.Entries.{KeptNumbers};
 ghost use Rattle.std.specs.List.{slice_get};
 ghost use Rattle.std.proofs.Common.{rules};
 
@@ -23,7 +23,7 @@ impl Section for Numbers {
 
     ghost width = { 1 };
 
-    ghost encoded = { number_bytes };
+    ghost encoded = { λ n. n ∷ [] };
 
     ghost fits = { λ n. n < 256 };
 

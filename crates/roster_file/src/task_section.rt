@@ -1,4 +1,4 @@
-// The tasks of a file, entered into a table. The times of a task stand as one list, which gives the width of an entry and both codecs.
+// The tasks of a file, entered into a table. The times of a task stand as one list in both codecs.
 ghost use Rattle.std.specs.Prelude.{◌≡◌, ◌+◌, ◌≤◌, length, take, drop, Ok, Err, MatchResult};
 ghost use Rattle.roster_file.specs.Entries.{task_bytes, time_bytes, kind_byte, fields, task_width, TaskFits, NoKind, Holds, NotEntered, tasks_in};
 ghost use Rattle.std.proofs.Common.{rules};
@@ -29,8 +29,7 @@ pub(crate) struct Tasks {
 impl Section for Tasks {
     type Entry = TaskEntry;
 
-    // the number, the kind, and four bytes for each time
-    const WIDTH: usize = 2 + 4 * TIMES;
+    const WIDTH: usize = 22;
 
     ghost width = { task_width };
 

@@ -9,6 +9,6 @@ returns-then-n-lt10 t c = record { laid = rw (decimal_digit c.args.n (omega arit
 
 pub returns : goal.returns
 returns t c =
-    let all = then c.put-number-at.ensures.laid c.put-2.ensures in
+    let all = then c.put_number-at.ensures.laid c.put-2.ensures in
     let laid = rw (← decimal_step c.args.n (omega arith) (omega arith)) at all in
     record { laid = laid; short = omega (arith, length-decimal-le 10 c.args.n (omega arith) (omega arith) (omega arith)) }

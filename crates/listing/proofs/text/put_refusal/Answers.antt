@@ -5,4 +5,4 @@ use Rattle.listing.proofs.text.put_refusal.Goals as goal
 
 pub returns : goal.returns
 unfolding refusal_text
-returns c = from_front (then (then c.put-all-at.ensures c.put-number-at.ensures.laid) c.put.ensures)
+returns c = from_front (then (then c.put_all-at.ensures c.put_number-at.ensures.laid) c.put.ensures)
