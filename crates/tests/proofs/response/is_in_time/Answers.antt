@@ -12,4 +12,4 @@ pub returns-2 : goal.returns-2
 returns-2 c =
     let t = c.args.table.now in
     let h = c.args.above.bits in
-    c.is-some.ensures ∙ response_says c.args.mode t.places h (get_or t.places c.args.task None) c.response.result c.response.ensures
+    c.is_some.ensures ∙ response_says c.args.mode t.places h (get_or t.places c.args.task None) c.response.result c.response.ensures

@@ -5,11 +5,11 @@ use Rattle.tests.proofs.Answers.{after_proper}
 use Rattle.tests.proofs.Wording.{in_time_words}
 use Rattle.tests.proofs.response.InTimeTest.passes.Goals as goal
 
-pub returns-then-is-proper : goal.returns-then-is-proper
-returns-then-is-proper c =
+pub returns-then-is_proper : goal.returns-then-is_proper
+returns-then-is_proper c =
     let t = c.args.table.now in
     let k = c.args.task in
     let h = c.args.above.bits in
     let m = c.args.self.now.mode in
-    let e = c.is-in-time.ensures ∙ sym (after_proper (responds m) t k h (sym c.if-is-proper.ensures.value)) in
+    let e = c.is_in_time.ensures ∙ sym (after_proper (responds m) t k h (sym c.if-is_proper.ensures.value)) in
     record { answer = e; same = λ u i g. refl; means = Decides-at _ _ e (in_time_words m t k h) }

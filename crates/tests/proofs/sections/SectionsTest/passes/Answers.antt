@@ -14,10 +14,10 @@ returns c =
     let k = c.args.task in
     let h = c.args.above.bits in
     let r = c.in-Some.row in
-    let fixed = ap (λ n. r.normal + n) c.longest-section.ensures.value in
+    let fixed = ap (λ n. r.normal + n) c.longest_section.ensures.value in
     let e =
-    c.is-some.ensures
-    ∙ covering_says t.places r k h _ c.least-covering.result fixed c.least-covering.ensures
+    c.is_some.ensures
+    ∙ covering_says t.places r k h _ c.least_covering.result fixed c.least_covering.ensures
     ∙ ap (λ o. of_task o (λ s. some_up_to (λ n. leb (demand Normal t.places s h n + blocking t.places k h) n) (search_end s))) c.in-Some.ensures.value
-    ∙ sym (after_proper unblocked t k h (sym c.is-proper.ensures.value ∙ c.if-not-is-proper.false)) in
+    ∙ sym (after_proper unblocked t k h (sym c.is_proper.ensures.value ∙ c.if-not-is_proper.false)) in
     record { answer = e; same = λ u i g. refl; means = Decides-at _ _ e (sections_words t k h) }
