@@ -17,9 +17,9 @@ pub fn judge<T: Test>(
     test: &mut T,
 ) -> Result<Option<usize>, OrderFault>
     ensures value { MatchResult result
-        (λ n. Lists order.now table.now.places × FirstNo (says test.old) table.now order.now n)
+        (λ n. Lists order.now table.now.places × FirstNo (T.says test.old) table.now order.now n)
         (λ _. (Lists order.now table.now.places → ⊥) × (test.new ≡ test.old)) }
-    ensures same { Alike (says test.new) (says test.old) }
+    ensures same { Alike (T.says test.new) (T.says test.old) }
 {
     if !table.is_listed_by(order) {
         return Err(OrderFault);

@@ -18,12 +18,12 @@ use tasks::table::Table;
 // of the table's tasks passes, whatever had been put in the places below.
 pub fn plan<T: Test>(table: &Table, test: &mut T) -> Result<Order, PlanFault>
     ensures outcome { MatchResult result
-        (λ o. IsPlan (says test.old) table.now (listed o))
-        (λ f. NoOrder (says test.old) table.now × ((n : ℕ) × (member f.left.bits n ≡ true))) }
-    ensures only { (p : List ℕ) → IsPlan (says test.old) table.now p → MatchResult result (λ o. listed o ≡ p) (λ _. ⊥) }
-    ensures left { LeftOver (says test.old) table.now (left_by result) }
-    ensures always_left { (l : ℕ) → LeftOver (says test.old) table.now l → l ≡ left_by result }
-    ensures same { Alike (says test.new) (says test.old) }
+        (λ o. IsPlan (T.says test.old) table.now (listed o))
+        (λ f. NoOrder (T.says test.old) table.now × ((n : ℕ) × (member f.left.bits n ≡ true))) }
+    ensures only { (p : List ℕ) → IsPlan (T.says test.old) table.now p → MatchResult result (λ o. listed o ≡ p) (λ _. ⊥) }
+    ensures left { LeftOver (T.says test.old) table.now (left_by result) }
+    ensures always_left { (l : ℕ) → LeftOver (T.says test.old) table.now l → l ≡ left_by result }
+    ensures same { Alike (T.says test.new) (T.says test.old) }
 {
     let mut left = table.tasks();
     let mut upwards = Order::empty();
@@ -40,9 +40,9 @@ pub fn plan<T: Test>(table: &Table, test: &mut T) -> Result<Order, PlanFault>
 // The first of the tasks left that passes with all the others left above it.
 fn lowest<T: Test>(table: &Table, left: TaskSet, test: &mut T) -> Option<u8>
     ensures value { MatchOption result
-        (Stuck (says test.old) table.now left.bits)
-        (λ k. (member left.bits k ≡ true) × FirstYes (says test.old) table.now (excluding left.bits k) k) }
-    ensures same { Alike (says test.new) (says test.old) }
+        (Stuck (T.says test.old) table.now left.bits)
+        (λ k. (member left.bits k ≡ true) × FirstYes (T.says test.old) table.now (excluding left.bits k) k) }
+    ensures same { Alike (T.says test.new) (T.says test.old) }
 {
     let mut untried = left;
     while let Some(task) = last_due(table, untried) {

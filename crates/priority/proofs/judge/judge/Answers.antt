@@ -18,7 +18,7 @@ returns-then-not-passes g c =
     let k = get_or o i 0 in
     let n = sym (inv.2 t k _) ∙ ap (says c.loop-i.test t k) (sym inv.0) ∙ sym c.if-not-passes.ensures.answer in
     record {
-      value = (c.if-not-is-listed-by.ensures.0 refl, (take i o, drop (i + 1) o, k, at_place o i l, ap (λ m. m + 1) (sym (length-take-le i o (omega arith))), inv.1, n));
+      value = (c.if-not-is_listed_by.ensures.0 refl, (take i o, drop (i + 1) o, k, at_place o i l, ap (λ m. m + 1) (sym (length-take-le i o (omega arith))), inv.1, n));
       same = λ u j h. c.passes.ensures.same u j h ∙ inv.2 u j h;
     }
 
@@ -32,7 +32,7 @@ loop-i-preserved g c =
     let l = c.loop-i-test.true in
     let k = get_or o i 0 in
     let y = sym (inv.2 t k _) ∙ ap (says c.loop-i.test t k) (sym inv.0) ∙ sym c.if-not-passes.ensures.answer in (
-      above_more o t i c.loop-i.above.bits _ l (c.if-not-is-listed-by.ensures.0 refl) inv.0 c.with-above.ensures.bits,
+      above_more o t i c.loop-i.above.bits _ l (c.if-not-is_listed_by.ensures.0 refl) inv.0 c.with-above.ensures.bits,
       subst (Passes (says c.args.test.now) t) (sym (take_more o i 0 l)) (each_more (Yes (says c.args.test.now) t) (take i o) k inv.1 y),
       λ u j h. c.passes.ensures.same u j h ∙ inv.2 u j h,
     )
@@ -42,6 +42,6 @@ returns g c =
     let o = c.args.order.now in
     let inv = c.loop-i.invariant in
     record {
-      value = (c.if-not-is-listed-by.ensures.0 refl, subst (Passes (g.T.Test.says c.args.test.now) c.args.table.now) (take_all c.loop-i.i o (omega arith)) inv.1);
+      value = (c.if-not-is_listed_by.ensures.0 refl, subst (Passes (g.T.Test.says c.args.test.now) c.args.table.now) (take_all c.loop-i.i o (omega arith)) inv.1);
       same = inv.2;
     }

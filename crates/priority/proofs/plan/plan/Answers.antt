@@ -28,22 +28,22 @@ loop-task-preserved g c =
       λ s j h. c.lowest.ensures.same s j h ∙ c.loop-task.invariant.1 s j h,
     )
 
-pub returns-then-not-is-empty : goal.returns-then-not-is-empty
-returns-then-not-is-empty g c =
+pub returns-then-not-is_empty : goal.returns-then-not-is_empty
+returns-then-not-is_empty g c =
     let test = c.args.test.now in
     let says = g.T.Test.says test in
     let t = c.args.table.now in
     let l = c.loop-task.left.bits in
     let raise = g.met.T.Test.raise test in
-    let stuck = stuck_alike (g.T.Test.says c.loop-task.test) says c.loop-task.invariant.1 t l c.in-default.ensures.value in
+    let stuck = stuck_alike (g.T.Test.says c.loop-task.test) says c.loop-task.invariant.1 t l c.in_default.ensures.value in
     let left = planned_left says t c.tasks-left.result.bits c.tasks-left.ensures (listed c.loop-task.upwards) l c.loop-task.invariant.0 stuck in
-    let some = some_member l l (below_pow l) (eqb-false l 0 (sym c.if-not-is-empty.ensures.bits)) in
+    let some = some_member l l (below_pow l) (eqb-false l 0 (sym c.if-not-is_empty.ensures.bits)) in
     let none = left_no_order says t raise l some.0 left some.1 in
     record {
       outcome = (none, some);
       only = λ p i. none p i.0 (λ xs ys k e. (i.1 xs ys k e).0);
       left = left;
-      always-left = λ m v. left_same says t raise m l v left;
+      always_left = λ m v. left_same says t raise m l v left;
       same = λ s j h. c.lowest.ensures.same s j h ∙ c.loop-task.invariant.1 s j h;
     }
 
@@ -56,14 +56,14 @@ returns g c =
     let l = c.loop-task.left.bits in
     let us = listed c.loop-task.upwards in
     let raise = g.met.T.Test.raise test in
-    let none = eqb-true l 0 (sym c.if-not-is-empty.ensures.bits) in
+    let none = eqb-true l 0 (sym c.if-not-is_empty.ensures.bits) in
     let full = subst (Filled (FirstYes says t) a us) none c.loop-task.invariant.0 in
-    let stuck = stuck_alike (g.T.Test.says c.loop-task.test) says c.loop-task.invariant.1 t l c.in-default.ensures.value in
+    let stuck = stuck_alike (g.T.Test.says c.loop-task.test) says c.loop-task.invariant.1 t l c.in_default.ensures.value in
     let left = subst (LeftOver says t) none (planned_left says t a c.tasks-left.ensures us l c.loop-task.invariant.0 stuck) in
     record {
       outcome = subst (IsPlan says t) (sym c.reversed.ensures.listed) (filled_plan says t a c.tasks-left.ensures us full);
       only = λ p i. c.reversed.ensures.listed ∙ plan_same says t a c.tasks-left.ensures us p full i;
       left = left;
-      always-left = λ m v. left_same says t raise m 0 v left;
+      always_left = λ m v. left_same says t raise m 0 v left;
       same = λ s j h. c.lowest.ensures.same s j h ∙ c.loop-task.invariant.1 s j h;
     }
