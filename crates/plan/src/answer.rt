@@ -8,13 +8,12 @@ ghost use Rattle.roster_file.specs.Layout.{Refused};
 ghost use Rattle.roster_file.specs.Refusals.{file_tells};
 ghost use Rattle.roster_file.specs.declared.fault.FileFault.{FileFault};
 
+use crate::planning::{PlanFault, plan};
 use demand::mode::Mode;
 use demand::response;
 use listing::line::Line;
 use listing::lines::Lines;
 use listing::text::{write_listing, write_refusal};
-use priority::fault::PlanFault;
-use priority::plan::plan;
 use roster_file::fault::FileFault;
 use roster_file::read::read;
 use tasks::fault::SpaceFault;
@@ -22,7 +21,6 @@ use tasks::order::Order;
 use tasks::refusal::{Fault, Refusal};
 use tasks::set::TaskSet;
 use tasks::table::Table;
-use tests::guarantee::guarantee;
 
 // Why there is no listing.
 #[derive(Clone, Copy)]
@@ -100,7 +98,7 @@ fn planned(file: &[u8]) -> Result<Roster, NoListing>
     let mut table = Table::empty();
     let mut order = Order::empty();
     read(file, &mut table, &mut order)?;
-    let order = plan(&table, &mut guarantee())?;
+    let order = plan(&table)?;
     Ok(Roster { table, order })
 }
 

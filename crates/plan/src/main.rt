@@ -1,9 +1,9 @@
 // Reads a roster file from standard input, plans the priorities of its tasks and prints the listing.
 #![tactic(auto)]
-
 mod answer;
 #[cfg(test)]
 mod label_press;
+mod planning;
 #[cfg(test)]
 mod whole_files;
 
