@@ -16,29 +16,41 @@ use tests::response::InTime;
 use tests::sections::Sections;
 
 // Task 1 is tolerable and task 2 strict, so that a layer for one kind is asked about both.
-fn opens<T: Test + Drop>(rt: &impl Abort, mut test: T) -> Result<(), Fail> {
+fn opens<T: Test + Drop>(rt: &impl Abort, name: &str, mut test: T) -> Result<(), Fail> {
     let table = roomy()?;
     let none = TaskSet::empty();
     assert!(rt;
         test.passes(&table, 1, only(2)),
-        "a proper question, tolerable"
+        "{name}: a proper question, tolerable"
     );
     assert!(rt;
         test.passes(&table, 2, only(1)),
-        "a proper question, strict"
+        "{name}: a proper question, strict"
     );
-    assert!(rt; !test.passes(&table, 32, none), "the number after the last");
-    assert!(rt; !test.passes(&table, 255, none), "the largest number");
-    assert!(rt; !test.passes(&table, 3, none), "an empty place");
-    assert!(rt; !test.passes(&table, 1, only(1)), "above itself, tolerable");
-    assert!(rt; !test.passes(&table, 2, only(2)), "above itself, strict");
+    assert!(rt;
+        !test.passes(&table, 32, none),
+        "{name}: the number after the last"
+    );
+    assert!(rt;
+        !test.passes(&table, 255, none),
+        "{name}: the largest number"
+    );
+    assert!(rt; !test.passes(&table, 3, none), "{name}: an empty place");
+    assert!(rt;
+        !test.passes(&table, 1, only(1)),
+        "{name}: above itself, tolerable"
+    );
+    assert!(rt;
+        !test.passes(&table, 2, only(2)),
+        "{name}: above itself, strict"
+    );
     assert!(rt;
         !test.passes(&table, 1, only(3)),
-        "an empty place above, tolerable"
+        "{name}: an empty place above, tolerable"
     );
     assert!(rt;
         !test.passes(&table, 2, only(3)),
-        "an empty place above, strict"
+        "{name}: an empty place above, strict"
     );
     Ok(())
 }
@@ -48,27 +60,27 @@ fn layers_open<T: Test + Copy>(rt: &impl Abort, test: T) -> Result<(), Fail> {
     let Ok(reserve) = Reserve::new(4, test) else {
         return Err(Fail::new("the reserve is refused"));
     };
-    opens(rt, reserve).note("reserve")?;
+    opens(rt, "reserve", reserve)?;
     opens(
         rt,
+        "pair",
         Pair {
             first: test,
             second: test,
         },
-    )
-    .note("pair")?;
-    opens(rt, StrictOnly { below: test }).note("strict-only")?;
-    opens(rt, layered(test, test)).note("all three")
+    )?;
+    opens(rt, "strict-only", StrictOnly { below: test })?;
+    opens(rt, "all three", layered(test, test))
 }
 
 #[test]
 fn every_test_opens(rt: HostRuntime) -> Result<(), Fail> {
-    opens(&rt, InTime::normal()).note("normal")?;
-    opens(&rt, InTime::abnormal()).note("abnormal")?;
-    opens(&rt, Sections).note("sections")?;
-    opens(&rt, Load::new(1_000_000)?).note("load")?;
-    opens(&rt, guarantee()).note("guarantee")?;
-    opens(&rt, FewAbove::new(1)).note("few above")
+    opens(&rt, "normal", InTime::normal())?;
+    opens(&rt, "abnormal", InTime::abnormal())?;
+    opens(&rt, "sections", Sections)?;
+    opens(&rt, "load", Load::new(1_000_000)?)?;
+    opens(&rt, "guarantee", guarantee())?;
+    opens(&rt, "few above", FewAbove::new(1))
 }
 
 #[test]

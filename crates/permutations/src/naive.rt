@@ -22,7 +22,7 @@ pub(crate) fn candidates(heap: Global, table: &Table) -> Result<Vec<Candidate>, 
             tried.push(Candidate { deadline, number })?;
         }
     }
-    tried.sort();
+    tried.sort()?;
     tried.reverse();
     Ok(tried)
 }
