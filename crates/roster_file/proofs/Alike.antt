@@ -1,7 +1,7 @@
 -- Entries are told by their bytes. Assumes nothing.
-use Rattle.std.proofs.Common.{◌≡◌, ℕ, ◌+◌, ◌*◌, ◌/◌, ◌%◌, ◌^◌, ◌<◌, ◌⊎◌, List, [], ◌∷◌, ◌++◌, sym, refl, ap, ◌∙◌, subst, inl, inr, arith}
+use Rattle.std.proofs.Common.{◌≡◌, ℕ, ◌*◌, ◌/◌, ◌%◌, ◌^◌, ◌<◌, ◌⊎◌, List, [], ◌∷◌, ◌++◌, sym, refl, ap, ◌∙◌, subst, inl, inr, arith}
 use Rattle.std.proofs.lemmas.List.{append_assoc}
-use Rattle.std.specs.List.{flat_map, AllByRecursion as All}
+use Rattle.std.specs.List.{flat_map, AllByRecursion}
 use Rattle.tasks.specs.declared.kind.Kind.{Kind}
 use Rattle.tasks.specs.declared.kind.Kind.TheVariants.{Tolerable, Strict}
 use Rattle.tasks.specs.declared.row.Row.{Row}
@@ -73,7 +73,7 @@ push e es fs rest rest' (inr (inl (f, more, after, p, q))) = inr (inl (f, more, 
 push e es fs rest rest' (inr (inr (f, more, after, p, q))) = inr (inr (f, more, after, ap (λ xs. e ∷ xs) p, q))
 
 -- of two lists of entries with which the same bytes begin, one goes on where the other ends
-pub compared : (es fs : List TaskEntry) (rest rest' : List ℕ) → All TaskFits es → All TaskFits fs → flat_map task_bytes es ++ rest ≡ flat_map task_bytes fs ++ rest' → Compared es rest fs rest'
+pub compared : (es fs : List TaskEntry) (rest rest' : List ℕ) → AllByRecursion TaskFits es → AllByRecursion TaskFits fs → flat_map task_bytes es ++ rest ≡ flat_map task_bytes fs ++ rest' → Compared es rest fs rest'
 compared [] [] rest rest' ef ff q = inl (refl, q)
 compared [] (f ∷ fs) rest rest' ef ff q = inr (inl (f, fs, _, refl, q ∙ append_assoc (task_bytes f) (flat_map task_bytes fs) rest'))
 compared (e ∷ es) [] rest rest' ef ff q = inr (inr (e, es, _, refl, sym q ∙ append_assoc (task_bytes e) (flat_map task_bytes es) rest))

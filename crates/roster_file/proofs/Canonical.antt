@@ -3,7 +3,7 @@ use Rattle.std.proofs.Common.{◌≡◌, ℕ, zero, suc, ◌+◌, ◌*◌, ◌<�
 use Rattle.std.proofs.ByRecursion.{All-push, All-weaker}
 use Rattle.std.proofs.lemmas.List.{append-nil, get_or_past, take_all}
 use Rattle.std.proofs.lemmas.Bool.{cases_lt, cases_eq}
-use Rattle.std.specs.List.{flat_map, AllByRecursion as All, slice_get}
+use Rattle.std.specs.List.{flat_map, AllByRecursion, slice_get}
 use Rattle.std.specs.Option.{option_map, option_to_list}
 use Rattle.tasks.specs.declared.fault.SpaceFault.{SpaceFault}
 use Rattle.tasks.specs.Orders.{Lists}
@@ -26,7 +26,7 @@ use Rattle.roster_file.proofs.Writing.{length_joined}
 -- ---- one list of rising entries fills a table
 
 -- no entry above a number has it
-under_above : (n : ℕ) (es : List TaskEntry) → All (λ (e : TaskEntry). n < e.number) es → under n es ≡ []
+under_above : (n : ℕ) (es : List TaskEntry) → AllByRecursion (λ (e : TaskEntry). n < e.number) es → under n es ≡ []
 under_above n [] a = refl
 under_above n (e ∷ es) (l, a) = under_other n e es (λ q. omega arith) ∙ under_above n es a
 
@@ -66,15 +66,15 @@ canonical_one bytes file t order a b =
 -- ---- the tasks of a table by rising number
 
 -- the entries below a number have lower numbers
-low_below : (ps : List (Option Row)) (k : ℕ) → All (λ (e : TaskEntry). e.number < k) (below (tasks_in ps) k)
+low_below : (ps : List (Option Row)) (k : ℕ) → AllByRecursion (λ (e : TaskEntry). e.number < k) (below (tasks_in ps) k)
 unfolding below
 low_below ps zero = tt
 low_below ps (suc k) = by_any_place (get_or ps k None) (All-weaker _ _ (λ (e : TaskEntry) (l : e.number < k). omega arith) (below (tasks_in ps) k) (low_below ps k)) where
-  by_any_place : (o : Option Row) → All (λ (e : TaskEntry). e.number < suc k) (below (tasks_in ps) k) → All (λ (e : TaskEntry). e.number < suc k) (below (tasks_in ps) k ++ option_to_list (option_map (task_of k) o))
-  by_any_place None before = subst (All (λ (e : TaskEntry). e.number < suc k)) (sym (append-nil (below (tasks_in ps) k))) before
+  by_any_place : (o : Option Row) → AllByRecursion (λ (e : TaskEntry). e.number < suc k) (below (tasks_in ps) k) → AllByRecursion (λ (e : TaskEntry). e.number < suc k) (below (tasks_in ps) k ++ option_to_list (option_map (task_of k) o))
+  by_any_place None before = subst (AllByRecursion (λ (e : TaskEntry). e.number < suc k)) (sym (append-nil (below (tasks_in ps) k))) before
   by_any_place (Some r) before = All-push _ (below (tasks_in ps) k) (task_of k r) before (omega arith)
 
-rising_push : (es : List TaskEntry) (f : TaskEntry) → Rising es → All (λ (e : TaskEntry). e.number < f.number) es → Rising (es ++ (f ∷ []))
+rising_push : (es : List TaskEntry) (f : TaskEntry) → Rising es → AllByRecursion (λ (e : TaskEntry). e.number < f.number) es → Rising (es ++ (f ∷ []))
 rising_push [] f r a = (tt, tt)
 rising_push (e ∷ es) f (l, r) (m, a) = (All-push _ es f l m, rising_push es f r a)
 

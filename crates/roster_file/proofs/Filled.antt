@@ -1,9 +1,9 @@
 -- A table is told by the entries that fill it, and each entry stands in its place. Assumes nothing.
-use Rattle.std.proofs.Common.{◌≡◌, ℕ, ◌+◌, List, [], ◌∷◌, ◌++◌, get_or, Some, None, Option, sym, refl, ap, ◌∙◌, subst, inl, inr, arith}
+use Rattle.std.proofs.Common.{◌≡◌, ℕ, List, [], ◌∷◌, ◌++◌, get_or, Some, None, Option, sym, refl, ap, ◌∙◌, subst, inl, inr, arith}
 use Rattle.std.proofs.lemmas.List.{append_assoc, same_lists, get_or_default, get_or_past}
 use Rattle.std.proofs.lemmas.Bool.{cases_lt}
 use Rattle.std.specs.Option.{option_to_list}
-use Rattle.std.specs.List.{AllByRecursion as All}
+use Rattle.std.specs.List.{AllByRecursion}
 use Rattle.tasks.specs.Bounds.{Lawful}
 use Rattle.tasks.specs.declared.row.Row.{Row}
 use Rattle.tasks.specs.declared.table.Table.{Table}
@@ -45,9 +45,9 @@ pub fits : (e : TaskEntry) → Lawful e.number e.row → TaskFits e
 fits e (n, (t, w, s)) = (omega arith, (omega arith, (omega arith, (omega arith, (omega arith, (omega arith, tt))))))
 
 -- so each entry fits its bytes
-all_fit : (pre es : List TaskEntry) (t : Table) → Holds (pre ++ es) t.places → All TaskFits es
+all_fit : (pre es : List TaskEntry) (t : Table) → Holds (pre ++ es) t.places → AllByRecursion TaskFits es
 all_fit pre [] t h = tt
 all_fit pre (e ∷ es) t h = (fits e (lawful t e.number e.row (stands pre es e t.places h).0), all_fit (pre ++ (e ∷ [])) es t (subst (λ xs. Holds xs t.places) (sym (append_assoc pre (e ∷ []) es)) h))
 
-pub filled_fit : (es : List TaskEntry) (t : Table) → Holds es t.places → All TaskFits es
+pub filled_fit : (es : List TaskEntry) (t : Table) → Holds es t.places → AllByRecursion TaskFits es
 filled_fit es t h = all_fit [] es t h

@@ -1,5 +1,5 @@
 -- How a task and a number stand in a file. Assumes nothing.
-use Rattle.std.specs.Prelude.{◌≡◌, ℕ, zero, suc, ◌+◌, ◌*◌, ◌/◌, ◌%◌, ◌^◌, ◌<◌, ◌≤◌, Bool, cond, List, [], ◌∷◌, map, length, take, None, Option, ◌==◌, nat_le, slice_index, slice_index_or}
+use Rattle.std.specs.Prelude.{◌≡◌, ℕ, zero, suc, ◌+◌, ◌/◌, ◌%◌, ◌^◌, ◌<◌, ◌≤◌, Bool, cond, List, [], ◌∷◌, length, take, None, Option, ◌==◌, nat_le, slice_index, slice_index_or}
 use Rattle.tasks.specs.declared.kind.Kind.{Kind}
 use Rattle.tasks.specs.declared.kind.Kind.TheVariants.{Tolerable, Strict}
 use Rattle.tasks.specs.declared.row.Row.{Row}
@@ -8,7 +8,7 @@ use Rattle.tasks.specs.Tables.{EntryRefused}
 use Rattle.roster_file.specs.declared.task_section.TaskEntry.{TaskEntry}
 use Rattle.roster_file.specs.declared.fault.FileFault.{FileFault}
 use Rattle.roster_file.specs.declared.fault.FileFault.TheVariants as fault
-use Rattle.std.specs.List.{flat_map, AllByRecursion as All}
+use Rattle.std.specs.List.{flat_map, AllByRecursion}
 use Rattle.std.specs.Option.{option_map, option_to_list}
 
 -- so many bytes of a number, the lowest first
@@ -51,7 +51,7 @@ task_bytes e = e.number ∷ kind_byte e.row.kind ∷ flat_map time_bytes (fields
 
 -- each part fits the bytes that it has
 abbrev pub TaskFits : TaskEntry → Type 0
-TaskFits e = (e.number < 256) × All (λ n. n < 2 ^ 32) (fields e.row)
+TaskFits e = (e.number < 256) × AllByRecursion (λ n. n < 2 ^ 32) (fields e.row)
 
 -- the bytes of a task name neither kind; told at the kind byte
 abbrev pub NoKind : List ℕ → ℕ → FileFault → Type 0

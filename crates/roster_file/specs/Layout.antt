@@ -7,7 +7,7 @@ use Rattle.roster_file.specs.Entries.{task_bytes, task_width, TaskFits, Holds}
 use Rattle.roster_file.specs.declared.task_section.TaskEntry.{TaskEntry}
 use Rattle.roster_file.specs.declared.fault.FileFault.{FileFault}
 use Rattle.roster_file.specs.declared.fault.FileFault.TheVariants as fault
-use Rattle.std.specs.List.{flat_map, AllByRecursion as All}
+use Rattle.std.specs.List.{flat_map, AllByRecursion}
 
 -- the first byte of every file
 abbrev pub edition : ℕ
@@ -27,7 +27,7 @@ pub record Layout (bytes : List ℕ) (t : Table) (order : List ℕ) : Type 0 whe
 -- the numbers rise: each is below those after it
 abbrev pub Rising : List TaskEntry → Type 0
 Rising [] = Unit {0}
-Rising (e ∷ es) = All (λ (f : TaskEntry). e.number < f.number) es × Rising es
+Rising (e ∷ es) = AllByRecursion (λ (f : TaskEntry). e.number < f.number) es × Rising es
 
 -- a file as it is written: a lawful one whose tasks stand by rising number and whose order is named
 pub record Canonical (bytes : List ℕ) (t : Table) (order : List ℕ) : Type 0 where

@@ -2,8 +2,8 @@ use Rattle.std.proofs.Common.{◌-◌, [], ◌∷◌, length, get_or, take, drop
 use Rattle.roster_file.proofs.Bytes.{single, two}
 use Rattle.roster_file.proofs.read.opening.Goals as goal
 
-pub returns-in-default-bytes : goal.returns-in-default-bytes
-returns-in-default-bytes c = (refl, inl (single c.args.bytes.now (omega (arith, ltb-true, ltb-false)) ∙ ap (λ x. x ∷ []) c.if-first-ne-EDITION.false))
+pub returns-in_default-bytes : goal.returns-in_default-bytes
+returns-in_default-bytes c = (refl, inl (single c.args.bytes.now (omega (arith, ltb-true, ltb-false)) ∙ ap (λ x. x ∷ []) c.if-first-ne-EDITION.false))
 
 pub returns : goal.returns
 returns c =

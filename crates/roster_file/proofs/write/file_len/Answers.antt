@@ -9,6 +9,6 @@ use Rattle.roster_file.proofs.write.file_len.Goals as goal
 pub returns : goal.returns
 returns c =
     let s = c.args.standing.now in
-    let tasks = ap (λ t. length (entries (tasks_in t.places))) c.sections-of.ensures.0 in
-    let numbers = ap (λ o. length (entries (slice_get (listed o)))) c.sections-of.ensures.1 in
-    omega (arith, length_assembled s.table (listed s.order), c.section-len.ensures.len, c.section-len-2.ensures.len)
+    let tasks = ap (λ t. length (entries (tasks_in t.places))) c.sections_of.ensures.0 in
+    let numbers = ap (λ o. length (entries (slice_get (listed o)))) c.sections_of.ensures.1 in
+    omega (arith, length_assembled s.table (listed s.order), c.section_len.ensures.len, c.section_len-2.ensures.len)

@@ -13,7 +13,7 @@ returns c =
     let t = s.table in
     let order = listed s.order in
     let file = assembled t order in
-    let long = c.as-mut-slice.ensures.len in
-    let all = put_all file c.as-mut-slice.result.now c.put-file.new.space c.put-file.result c.put-file.ensures (long ∙ c.in-ok-file.ensures.len ∙ c.file-len.ensures) in
-    let bytes = take_at c.put-file.new.space _ c.in-ok-file.file.len (c.put-file.auto.space ∙ long) ∙ all in
-    record { canonical = subst (λ xs. Canonical xs t order) (sym bytes) (canonical t order s.named); one-file = λ other k. bytes ∙ canonical_one file other t order (canonical t order s.named) k }
+    let long = c.as_mut_slice.ensures.len in
+    let all = put_all file c.as_mut_slice.result.now c.put_file.new.space c.put_file.result c.put_file.ensures (long ∙ c.in_ok-file.ensures.len ∙ c.file_len.ensures) in
+    let bytes = take_at c.put_file.new.space _ c.in_ok-file.file.len (c.put_file.auto.space ∙ long) ∙ all in
+    record { canonical = subst (λ xs. Canonical xs t order) (sym bytes) (canonical t order s.named); one_file = λ other k. bytes ∙ canonical_one file other t order (canonical t order s.named) k }

@@ -13,20 +13,20 @@ returns-then-space-needed c =
     let space = c.args.space.now in
     let named = c.args.standing.now.named in
     let file = assembled t order in
-    let short : Written file space space (Err (record { needed = c.file-len-needed.result })) = (c.file-len-needed.ensures, omega (arith, c.file-len-needed.ensures), refl) in
-    record { written = (file, canonical t order named, short); one-file = written_one t order space space (Err (record { needed = c.file-len-needed.result })) named short; read_back = tt }
+    let short : Written file space space (Err (record { needed = c.file_len-needed.result })) = (c.file_len-needed.ensures, omega (arith, c.file_len-needed.ensures), refl) in
+    record { written = (file, canonical t order named, short); one_file = written_one t order space space (Err (record { needed = c.file_len-needed.result })) named short; read_back = tt }
 
 pub returns : goal.returns
 returns c =
     let t = c.args.standing.now.table in
     let order = listed c.args.standing.now.order in
     let space = c.args.space.now in
-    let after = c.put-file.new.space in
+    let after = c.put_file.new.space in
     let named = c.args.standing.now.named in
     let file = assembled t order in
-    let done = put_front file space after c.put-file.result c.put-file.ensures in
+    let done = put_front file space after c.put_file.result c.put_file.ensures in
     record {
       written = (file, canonical t order named, done);
-      one-file = written_one t order space after (Ok c.put-file.result) named done;
-      read_back = holds_just t order space after c.put-file.result named done;
+      one_file = written_one t order space after (Ok c.put_file.result) named done;
+      read_back = holds_just t order space after c.put_file.result named done;
     }

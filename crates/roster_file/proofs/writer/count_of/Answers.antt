@@ -2,7 +2,7 @@ use Rattle.std.proofs.Common.{◌≡◌, ℕ, ◌+◌, cond, length, is_some, sy
 use Rattle.roster_file.specs.Sections.{below}
 use Rattle.roster_file.proofs.Writing.{below_none, count_more}
 use Rattle.roster_file.proofs.writer.count_of.Goals as goal
-use Rattle.roster_file.proofs.writer.count_of.Goals.{then-is-some, else-is-some}
+use Rattle.roster_file.proofs.writer.count_of.Goals.{then-is_some, else-is_some}
 
 pub loop-place-init : goal.loop-place-init
 loop-place-init g c = (sym (ap length (below_none (g.S.Section.placed c.args.section.now))), omega arith)
@@ -11,9 +11,9 @@ pub loop-place-preserved : goal.loop-place-preserved
 loop-place-preserved g c =
     let placed = g.S.Section.placed c.args.section.now in
     let n = c.loop-place.place in
-    let more : length (below placed (n + 1)) ≡ length (below placed n) + cond c.is-some.result 1 0 =
-    count_more placed n ∙ ap (λ b. length (below placed n) + cond b 1 0) (sym (c.is-some.ensures ∙ ap is_some c.entry-at.ensures)) in
-    elim c.if-is-some.branch [
-      | then-is-some w ↦ let t : cond {A = ℕ} c.is-some.result 1 0 ≡ 1 = ap (λ b. cond b 1 0) w.if-is-some.true in (omega (arith, w.count-is), omega (arith, w.count-is))
-      | else-is-some w ↦ let t : cond {A = ℕ} c.is-some.result 1 0 ≡ 0 = ap (λ b. cond b 1 0) w.if-is-some.false in (omega (arith, w.count-is), omega (arith, w.count-is))
+    let more : length (below placed (n + 1)) ≡ length (below placed n) + cond c.is_some.result 1 0 =
+    count_more placed n ∙ ap (λ b. length (below placed n) + cond b 1 0) (sym (c.is_some.ensures ∙ ap is_some c.entry_at.ensures)) in
+    elim c.if-is_some.branch [
+      | then-is_some w ↦ let t : cond {A = ℕ} c.is_some.result 1 0 ≡ 1 = ap (λ b. cond b 1 0) w.if-is_some.true in (omega (arith, w.count-is), omega (arith, w.count-is))
+      | else-is_some w ↦ let t : cond {A = ℕ} c.is_some.result 1 0 ≡ 0 = ap (λ b. cond b 1 0) w.if-is_some.false in (omega (arith, w.count-is), omega (arith, w.count-is))
     ]

@@ -19,4 +19,4 @@ returns c =
     let all = take_all c.loop-i.i ts (omega arith) in
     let read : flat_map time_bytes ts ≡ take (4 * length ts) (drop 2 xs) = ap (flat_map time_bytes) (sym all) ∙ c.loop-i.invariant.1 ∙ ap (λ n. take (4 * n) (drop 2 xs)) (omega arith) in
     let whole = task_from xs ts (kind_byte c.match-bytes.kind) (omega arith) kind read in
-    (whole ∙ cc (ap kind_byte c.row-of.ensures.0, ap (flat_map time_bytes) c.row-of.ensures.1), search rules)
+    (whole ∙ cc (ap kind_byte c.row_of.ensures.0, ap (flat_map time_bytes) c.row_of.ensures.1), search rules)
