@@ -3,7 +3,7 @@ use Rattle.std.proofs.Common.{◌≡◌, ℕ, ◌+◌, ◌<◌, ◌≤◌, Bool,
 use Rattle.std.proofs.lemmas.List.Sums.{sum_by-cons}
 use Rattle.std.proofs.lemmas.Bool.{cases_lt}
 use Rattle.std.proofs.lemmas.Bool.Decides.{nat_tests}
-use Rattle.std.specs.List.{AllByRecursion as All}
+use Rattle.std.specs.List.{AllByRecursion}
 use Rattle.timetable.specs.Drawing.{is_for}
 
 pub is_for_it : (j i : ℕ) → 1 ≤ is_for j i → i ≡ j
@@ -33,12 +33,12 @@ pub not_after : (r s : ℕ) → leb r s ≡ true → r ≤ s
 not_after r s e = grind (arith, nat_tests)
 
 module _ {X : Type 0} where
-  pub all_both : (P Q R : X → Type 0) → ((x : X) → P x → Q x → R x) → (xs : List X) → All P xs → All Q xs → All R xs
+  pub all_both : (P Q R : X → Type 0) → ((x : X) → P x → Q x → R x) → (xs : List X) → AllByRecursion P xs → AllByRecursion Q xs → AllByRecursion R xs
   all_both P Q R f [] p q = tt
   all_both P Q R f (x ∷ xs) p q = (f x p.0 q.0, all_both P Q R f xs p.1 q.1)
 
   -- where a sum is not 0, an entry counts
-  pub some_counts : (f : X → ℕ) (P : X → Type 0) (xs : List X) → All P xs → 1 ≤ sum_by f xs → (x : X) × P x × (1 ≤ f x)
+  pub some_counts : (f : X → ℕ) (P : X → Type 0) (xs : List X) → AllByRecursion P xs → 1 ≤ sum_by f xs → (x : X) × P x × (1 ≤ f x)
   some_counts f P [] p l = absurd (omega arith)
   some_counts f P (x ∷ xs) p l = elim (cases_lt 0 (f x)) [
     | inl here ↦ (x, p.0, here)
@@ -46,6 +46,6 @@ module _ {X : Type 0} where
   ]
 
   -- where it is 0, none does
-  pub none_counts : (f : X → ℕ) (xs : List X) → sum_by f xs ≤ 0 → All (λ x. f x ≤ 0) xs
+  pub none_counts : (f : X → ℕ) (xs : List X) → sum_by f xs ≤ 0 → AllByRecursion (λ x. f x ≤ 0) xs
   none_counts f [] l = tt
   none_counts f (x ∷ xs) l = (omega (arith, sum_by-cons f x xs), none_counts f xs (omega (arith, sum_by-cons f x xs)))

@@ -15,7 +15,7 @@ use Rattle.std.proofs.ByRecursion.{all_shuffled}
 use Rattle.std.proofs.lemmas.List.Sums.{sum_by-cons}
 use Rattle.std.proofs.lemmas.Bool.{cases_eq, cases_lt}
 use Rattle.std.specs.List.Sorted.{IsPermutation}
-use Rattle.std.specs.List.{AllByRecursion as All}
+use Rattle.std.specs.List.{AllByRecursion}
 use Rattle.tasks.specs.Listed.{listed}
 use Rattle.tasks.specs.declared.row.Row.{Row}
 use Rattle.tasks.specs.declared.standing.Standing.{Standing}
@@ -86,8 +86,8 @@ module _ (s : Standing) (js : List Job) (law : JobsLawful s.table.places js) (σ
   ]
 
   module _ (fs : List Finish) (t : ℕ) (cs : List Coming) (ws rest : List Waiting) (w : Waiting) (b : Between ps o js σ fs t cs ws)
-      (out : IsPermutation ws (w ∷ rest)) (first : All (Ahead w) ws) (e : ℕ) (later : All (λ (c : Coming). e ≤ c.release) cs) (more : t < e) (enough : e ≤ t + w.left) where
-    split : Waits o js σ t w × All (Waits o js σ t) rest
+      (out : IsPermutation ws (w ∷ rest)) (first : AllByRecursion (Ahead w) ws) (e : ℕ) (later : AllByRecursion (λ (c : Coming). e ≤ c.release) cs) (more : t < e) (enough : e ≤ t + w.left) where
+    split : Waits o js σ t w × AllByRecursion (Waits o js σ t) rest
     split = all_shuffled (Waits o js σ t) ws (w ∷ rest) out b.waiting
 
     -- every other job is done, comes later, or goes behind
@@ -119,13 +119,13 @@ module _ (s : Standing) (js : List Job) (law : JobsLawful s.table.places js) (σ
     own_served : served σ w.index e ≡ served σ w.index t + (e - t)
     own_served = stretch_own o js σ sch w.index t e released within behind e (omega arith) (omega arith)
 
-    comes_on : All (Comes js e) cs
+    comes_on : AllByRecursion (Comes js e) cs
     comes_on = all_both (Comes js t) (λ c. e ≤ c.release) (Comes js e) (λ c x y. (x.0, x.1, y)) cs b.coming later
 
     tally_out : (j : ℕ) → tally j cs ws ≡ is_for j w.index + tally j cs rest
     tally_out j = omega (arith, sum_by-IsPermutation (waits_for j) ws (w ∷ rest) out, sum_by-cons (waits_for j) w rest)
 
-    waits_on : All (Waits o js σ e) rest
+    waits_on : AllByRecursion (Waits o js σ e) rest
     waits_on =
         let none = none_counts (waits_for w.index) rest (omega (arith, tally_out w.index, b.once w.index, for_own w.index)) in
         all_both (Waits o js σ t) (λ y. waits_for w.index y ≤ 0) (Waits o js σ e) still rest split.1 none
@@ -186,7 +186,7 @@ module _ (s : Standing) (js : List Job) (law : JobsLawful s.table.places js) (σ
 
   -- ---- a stretch in which nothing runs
 
-  pub idled : (fs : List Finish) (t : ℕ) (cs : List Coming) → Between ps o js σ fs t cs [] → (e : ℕ) → All (λ (c : Coming). e ≤ c.release) cs → t ≤ e → Between ps o js σ fs e cs []
+  pub idled : (fs : List Finish) (t : ℕ) (cs : List Coming) → Between ps o js σ fs t cs [] → (e : ℕ) → AllByRecursion (λ (c : Coming). e ≤ c.release) cs → t ≤ e → Between ps o js σ fs e cs []
   idled fs t cs b e later more = record {
     coming = all_both (Comes js t) (λ c. e ≤ c.release) (Comes js e) (λ c x y. (x.0, x.1, y)) cs b.coming later;
     waiting = tt;
@@ -196,17 +196,17 @@ module _ (s : Standing) (js : List Job) (law : JobsLawful s.table.places js) (σ
 
   -- ---- the start
 
-  pub started : (fs : List Finish) (cs : List Coming) → All (Comes js 0) cs → ((j : ℕ) → sum_by (λ (c : Coming). is_for j c.index) cs ≤ 1) → ((j : ℕ) → j < length js → 1 ≤ sum_by (λ (c : Coming). is_for j c.index) cs)
+  pub started : (fs : List Finish) (cs : List Coming) → AllByRecursion (Comes js 0) cs → ((j : ℕ) → sum_by (λ (c : Coming). is_for j c.index) cs ≤ 1) → ((j : ℕ) → j < length js → 1 ≤ sum_by (λ (c : Coming). is_for j c.index) cs)
       → Between ps o js σ fs 0 cs []
   started fs cs all few some = record { coming = all; waiting = tt; once = λ j. omega (arith, few j); told = λ j l z. absurd (omega (arith, some j l)) }
 
 -- what holds of all entries holds of the one at the front
-pub at_front : {X : Type 0} (P : X → Type 0) (xs : List X) (x : X) → Some x ≡ front xs → All P xs → P x
+pub at_front : {X : Type 0} (P : X → Type 0) (xs : List X) (x : X) → Some x ≡ front xs → AllByRecursion P xs → P x
 at_front P [] x e a = absurd (let z : ◌≡◌ {A = ℕ} 0 1 = cc in omega arith)
 at_front P (y ∷ ys) x e a = let same : y ≡ x = cc in subst P same a.0
 
 module _ (s : Standing) (js : List Job) (law : JobsLawful s.table.places js) (fs : List Finish) (t : ℕ) (cs : List Coming) (ws : List Waiting) (b : Reached s js fs t cs ws) where
-  pub all_come : All (Comes js t) cs
+  pub all_come : AllByRecursion (Comes js t) cs
   all_come = let is = one_schedule s js law in (b is.0 is.1).coming
 
   -- the next to be released is a job of the list

@@ -1,10 +1,10 @@
 -- What a drawing gives, and what its two queues hold between events. Assumes nothing.
-use Rattle.std.specs.Prelude.{◌≡◌, ℕ, ◌+◌, ◌<◌, ◌≤◌, cond, List, length, get_or, Some, None, sum_by, Option, ◌==◌, slice_index_or}
+use Rattle.std.specs.Prelude.{◌≡◌, ℕ, ◌+◌, ◌<◌, ◌≤◌, cond, List, length, Some, None, sum_by, Option, ◌==◌, slice_index_or}
 use Rattle.schedule.specs.Jobs.{no_finish, job_at, lateness}
 use Rattle.schedule.specs.Schedule.{Schedule, served, place, IsSchedule, Ends}
 use Rattle.schedule.specs.declared.job.Finish.{Finish}
 use Rattle.schedule.specs.declared.job.Job.{Job}
-use Rattle.std.specs.List.{AllByRecursion as All}
+use Rattle.std.specs.List.{AllByRecursion}
 use Rattle.tasks.specs.Listed.{listed}
 use Rattle.tasks.specs.declared.row.Row.{Row}
 use Rattle.tasks.specs.declared.standing.Standing.{Standing}
@@ -48,10 +48,10 @@ tally j cs ws = sum_by (λ (c : Coming). is_for j c.index) cs + sum_by (λ (w : 
 -- At tick t the first queue holds jobs that are not released before t, the second those that are released and not finished; no job has two entries, and one that has none is finished, with
 -- its finish told.
 pub record Between (ps : List (Option Row)) (o : List ℕ) (js : List Job) (σ : Schedule) (fs : List Finish) (t : ℕ) (cs : List Coming) (ws : List Waiting) : Type 0 where
-  pub coming : All (Comes js t) cs
-  pub waiting : All (Waits o js σ t) ws
+  pub coming : AllByRecursion (Comes js t) cs
+  pub waiting : AllByRecursion (Waits o js σ t) ws
   pub once : (j : ℕ) → tally j cs ws ≤ 1
-  pub told : (j : ℕ) → j < length js → tally j cs ws ≡ 0 → FinishOf ps js σ j (slice_index_or fs j no_finish) × ((get_or fs j no_finish).finish ≤ t)
+  pub told : (j : ℕ) → j < length js → tally j cs ws ≡ 0 → FinishOf ps js σ j (slice_index_or fs j no_finish) × ((slice_index_or fs j no_finish).finish ≤ t)
 
 -- the same in the schedule of the jobs, of which there is one
 abbrev pub Reached : Standing → List Job → List Finish → ℕ → List Coming → List Waiting → Type 0

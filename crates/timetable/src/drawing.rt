@@ -4,7 +4,7 @@ ghost use Rattle.queue.specs.Queues.{entries, capacity, front, SameSpace};
 ghost use Rattle.queue.specs.Ranks.{Arranged};
 ghost use Rattle.schedule.specs.Jobs.{no_finish, lateness, last_release, JobsLawful};
 ghost use Rattle.schedule.specs.Schedule.{Schedule, place, IsSchedule};
-ghost use Rattle.std.specs.List.{AllByRecursion as All};
+ghost use Rattle.std.specs.List.{AllByRecursion};
 ghost use Rattle.schedule.specs.declared.job.Finish.{Finish};
 ghost use Rattle.timetable.specs.Drawing.{Drawn, Finishes, Comes, is_for, Reached};
 ghost use Rattle.timetable.specs.Questions.{Accepted, Refused};
@@ -59,10 +59,10 @@ fn let_in(
     time: u64,
 ) -> bool
     requires lawful { JobsLawful standing.now.table.places jobs.now }
-    requires coming { All (Comes jobs.now time) (entries coming.old) }
+    requires coming { AllByRecursion (Comes jobs.now time) (entries coming.old) }
     requires arranged { Arranged by_release (entries coming.old) }
     requires room { length (entries coming.old) + length (entries waiting.old) ≤ capacity waiting.old }
-    ensures none { result ≡ false → (coming.new ≡ coming.old) × (waiting.new ≡ waiting.old) × All (λ (c : Coming). time < c.release) (entries coming.old) }
+    ensures none { result ≡ false → (coming.new ≡ coming.old) × (waiting.new ≡ waiting.old) × AllByRecursion (λ (c : Coming). time < c.release) (entries coming.old) }
     ensures moved { result ≡ true → (length (entries coming.old) ≡ length (entries coming.new) + 1) × (length (entries waiting.new) ≡ length (entries waiting.old) + 1) }
     ensures reached { (fs : List Finish) → Reached standing.now jobs.now fs time (entries coming.old) (entries waiting.old) → Reached standing.now jobs.now fs time (entries coming.new) (entries waiting.new) }
     ensures coming { Arranged by_release (entries coming.new) × SameSpace coming.old coming.new }
@@ -88,8 +88,8 @@ fn let_in(
 fn first_before(coming: &Queue<'_, Coming>, tick: u64) -> Option<Coming>
     requires { Arranged by_release (entries coming.now) }
     ensures { MatchOption result
-        (All (λ (c : Coming). tick ≤ c.release) (entries coming.now))
-        (λ n. (Some n ≡ front (entries coming.now)) × (n.release < tick) × All (λ (c : Coming). n.release ≤ c.release) (entries coming.now)) }
+        (AllByRecursion (λ (c : Coming). tick ≤ c.release) (entries coming.now))
+        (λ n. (Some n ≡ front (entries coming.now)) × (n.release < tick) × AllByRecursion (λ (c : Coming). n.release ≤ c.release) (entries coming.now)) }
 {
     let Some(next) = coming.first() else {
         return None;
@@ -113,7 +113,7 @@ fn advance(
     requires few { (length jobs.now ≤ 4096) × (length jobs.now ≤ length finishes.old) }
     requires reached { Reached standing.now jobs.now finishes.old time (entries coming.now) (entries waiting.old) }
     requires arranged { Arranged by_release (entries coming.now) × Arranged by_place (entries waiting.old) }
-    requires later { All (λ (c : Coming). time < c.release) (entries coming.now) }
+    requires later { AllByRecursion (λ (c : Coming). time < c.release) (entries coming.now) }
     requires some { 1 ≤ length (entries coming.now) + length (entries waiting.old) }
     ensures reached { Reached standing.now jobs.now finishes.new result (entries coming.now) (entries waiting.new) }
     ensures less { last_release - result + length (entries waiting.new) < last_release - time + length (entries waiting.old) }
@@ -141,7 +141,7 @@ fn advance(
 fn fill(jobs: &[Job], coming: &mut Queue<'_, Coming>)
     requires empty { entries coming.old ≡ [] }
     requires room { length jobs.now ≤ capacity coming.old }
-    ensures coming { All (Comes jobs.now 0) (entries coming.new) }
+    ensures coming { AllByRecursion (Comes jobs.now 0) (entries coming.new) }
     ensures once { (j : ℕ) → sum_by (λ (c : Coming). is_for j c.index) (entries coming.new) ≡ (if nat_lt j (length jobs.now) then 1 else 0) }
     ensures len { length (entries coming.new) ≡ length jobs.now }
     ensures arranged { Arranged by_release (entries coming.old) → Arranged by_release (entries coming.new) }

@@ -23,7 +23,7 @@ pub run-requires : goal.run-requires
 run-requires c =
     let s = c.args.standing.now in
     let js = c.args.jobs.now in
-    let accepted = c.in-ok-check.ensures.outcome in
+    let accepted = c.in_ok-check.ensures.outcome in
     let f = c.fill.ensures in
     let new = c.new-turns.ensures in
     let none = ap length new.empty in
@@ -41,7 +41,7 @@ pub returns : goal.returns
 returns c =
     let s = c.args.standing.now in
     let js = c.args.jobs.now in
-    let accepted = c.in-ok-check.ensures.outcome in
+    let accepted = c.in_ok-check.ensures.outcome in
     let e = c.run.ensures in
     let is = one_schedule s js accepted.1 in
     let first = space_trans _ _ _ c.fill.ensures.space e.coming.1 in

@@ -6,7 +6,7 @@ use Rattle.std.proofs.lemmas.List.Sorted.{length_permutation, sum_by-IsPermutati
 use Rattle.std.proofs.ByRecursion.{all_shuffled}
 use Rattle.std.proofs.lemmas.List.Sums.{sum_by-cons}
 use Rattle.std.proofs.lemmas.Bool.{lt-ltb, le-ltb, cond-false}
-use Rattle.std.specs.List.{AllByRecursion as All}
+use Rattle.std.specs.List.{AllByRecursion}
 use Rattle.timetable.proofs.Counted.{one_more}
 use Rattle.timetable.proofs.drawing.fill.Goals as goal
 use Rattle.timetable.specs.Drawing.{Comes, is_for}
@@ -14,7 +14,7 @@ use Rattle.timetable.specs.declared.entry.Coming.{Coming}
 
 pub loop-i-init : goal.loop-i-init
 loop-i-init c = (
-  subst (All (Comes c.args.jobs.now 0)) (sym c.requires.empty) tt,
+  subst (AllByRecursion (Comes c.args.jobs.now 0)) (sym c.requires.empty) tt,
   λ j. ap (sum_by (λ (x : Coming). is_for j x.index)) c.requires.empty ∙ sym (cond-false {A = ℕ} (ltb j 0) 1 0 (le-ltb j 0 (omega arith))),
   ap length c.requires.empty,
   λ a. a,

@@ -29,20 +29,20 @@ pub returns : goal.returns
 returns c =
     let next = c.in-Some.next in
     let cs = entries c.args.coming.now in
-    let cs' = entries c.take-first.new.self in
+    let cs' = entries c.take_first.new.self in
     let ws = entries c.args.waiting.now in
     let ws' = entries c.insert.new.self in
-    let same : c.take-first.result ≡ Some next = c.take-first.ensures.front ∙ sym c.in-Some.ensures.front in
-    let out : IsPermutation cs (next ∷ cs') = subst (λ q. MatchOption q (c.take-first.new.self ≡ c.args.coming.now) (λ x. IsPermutation cs (x ∷ cs'))) same c.take-first.ensures.rest in
+    let same : c.take_first.result ≡ Some next = c.take_first.ensures.front ∙ sym c.in-Some.ensures.front in
+    let out : IsPermutation cs (next ∷ cs') = subst (λ q. MatchOption q (c.take_first.new.self ≡ c.args.coming.now) (λ x. IsPermutation cs (x ∷ cs'))) same c.take_first.ensures.rest in
     let p = length_permutation _ _ out in
     let room : c.insert.result ≡ true = c.insert.ensures.room ∙ lt-ltb _ _ (omega (arith, c.requires.room)) in
     let in' = c.insert.ensures.inserted room in
-    let rank = c.place-of.ensures ∙ ap (λ r. place (listed r) (job_at c.args.jobs.now next.index).task) c.order.ensures in
+    let rank = c.place_of.ensures ∙ ap (λ r. place (listed r) (job_at c.args.jobs.now next.index).task) c.order.ensures in
     let q = length_permutation _ _ in' in
     record {
       none = λ no. absurd (both_ways _ no room);
       moved = λ _. (omega arith, omega arith);
       reached = λ fs b σ sch. let_in c.args.standing.now c.args.jobs.now c.requires.lawful σ sch fs c.args.time cs cs' ws ws' next _ (b σ sch) out (omega arith) refl rank refl refl in';
-      coming = (c.take-first.ensures.arranged c.requires.arranged, c.take-first.ensures.space);
+      coming = (c.take_first.ensures.arranged c.requires.arranged, c.take_first.ensures.space);
       waiting = (c.insert.ensures.arranged, c.insert.ensures.space);
     }
