@@ -1,5 +1,6 @@
 // Reads a roster file from standard input, plans the priorities of its tasks and prints the listing.
 #![tactic(auto)]
+
 mod answer;
 #[cfg(test)]
 mod label_press;
