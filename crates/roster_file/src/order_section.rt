@@ -3,7 +3,7 @@ ghost use Rattle.std.specs.Prelude.{◌<◌, [], ◌∷◌};
 ghost use Rattle.tasks.specs.Listed.{listed};
 ghost use Rattle.roster_file.specs.Entries.{KeptNumbers};
 ghost use Rattle.std.specs.List.{slice_get};
-ghost use Rattle.std.proofs.Common.{rules};
+ghost use Rattle.std.proofs.Common.{refl, ltb-true};
 
 use crate::fault::FileFault;
 use crate::section::Section;
@@ -35,9 +35,9 @@ impl Section for Numbers {
 
     ghost placed = { λ s. slice_get (listed s.order) };
 
-    ghost narrow = { Prim.search rules };
+    ghost narrow = { ltb-true 1 256 refl };
 
-    ghost wide = { Prim.search rules };
+    ghost wide = { λ _. refl };
 
     fn entry_len() -> usize {
         Self::WIDTH

@@ -1,7 +1,7 @@
 // The tasks of a file, entered into a table. The times of a task stand as one list in both codecs.
 ghost use Rattle.std.specs.Prelude.{◌≡◌, ◌+◌, ◌≤◌, length, take, drop, Ok, Err, MatchResult};
 ghost use Rattle.roster_file.specs.Entries.{task_bytes, time_bytes, kind_byte, fields, task_width, TaskFits, NoKind, Holds, NotEntered, tasks_in};
-ghost use Rattle.std.proofs.Common.{rules};
+ghost use Rattle.std.proofs.Common.{refl, ltb-true};
 
 use crate::fault::{FileFault, Located};
 use crate::section::Section;
@@ -45,9 +45,9 @@ impl Section for Tasks {
 
     ghost placed = { λ s. tasks_in s.table.places };
 
-    ghost narrow = { Prim.search rules };
+    ghost narrow = { ltb-true task_width 256 refl };
 
-    ghost wide = { Prim.search rules };
+    ghost wide = { λ _. refl };
 
     fn entry_len() -> usize {
         Self::WIDTH

@@ -8,4 +8,4 @@ returns-in_default-bytes c = (refl, inl (single c.args.bytes.now (omega (arith, 
 pub returns : goal.returns
 returns c =
     let xs = c.args.bytes.now in
-    (two xs (omega (arith, ltb-true, ltb-false)) ∙ ap (λ x. x ∷ get_or xs 1 0 ∷ take (length xs - 2) (drop 2 xs)) c.if-first-ne-EDITION.false, c.if-count-gt-MOST.false)
+    (two xs (omega (arith, ltb-true, ltb-false)) ∙ ap (λ x. x ∷ get_or xs 1 0 ∷ take (length xs - 2) (drop 2 xs)) c.if-first-ne-EDITION.false, omega arith)
