@@ -12,6 +12,7 @@ use crate::answer::{Answer, write_answer};
 use anyhow::anyhow;
 use std::env;
 use std::io::{Read, Write};
+use std::process::ExitCode;
 
 // No listing has more than 777 bytes.
 const SPACE: usize = 1024;
@@ -33,14 +34,14 @@ fn run(rt: &HostRuntime) -> anyhow::Result<bool> {
     Ok(refused)
 }
 
-fn main(rt: HostRuntime) -> anyhow::Result<()> {
+fn main(rt: HostRuntime) -> anyhow::Result<ExitCode> {
     if env::args(&rt)?.nth(1).is_some() {
         eprintln!(rt; "{USAGE}")?;
-        return Err(anyhow!("an argument is given"));
+        return Ok(ExitCode::FAILURE);
     }
     let refused = run(&rt)?;
     if refused {
-        return Err(anyhow!("refused"));
+        return Ok(ExitCode::FAILURE);
     }
-    Ok(())
+    Ok(ExitCode::SUCCESS)
 }
