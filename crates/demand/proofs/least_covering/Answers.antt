@@ -1,7 +1,6 @@
 use Rattle.std.proofs.Common.{arith}
 use Rattle.demand.proofs.Search.{skip}
 use Rattle.demand.proofs.least_covering.Goals as goal
-use Rattle.demand.specs.Demand.{interference}
 
 pub loop-t-preserved : goal.loop-t-preserved
 loop-t-preserved c =

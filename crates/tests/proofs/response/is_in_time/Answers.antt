@@ -1,4 +1,4 @@
-use Rattle.std.proofs.Common.{get_or, Some, None, sym, ap, ◌∙◌, arith}
+use Rattle.std.proofs.Common.{get_or, None, ◌∙◌, arith}
 use Rattle.tests.proofs.Answers.{response_says, deadline_says}
 use Rattle.tests.proofs.response.is_in_time.Goals as goal
 
