@@ -1,6 +1,6 @@
 -- A list of known length, cut into its pieces. Assumes nothing.
 use Rattle.std.proofs.Common.{◌≡◌, ℕ, ◌+◌, ◌-◌, ◌*◌, ◌/◌, ◌%◌, ◌<◌, ◌≤◌, List, [], ◌∷◌, ◌++◌, length, get_or, take, drop, set, sym, refl, ap, ◌∙◌, arith, length-drop, length-set, take-add}
-use Rattle.std.proofs.lemmas.List.{drop_more, drop_all, drop-drop, take_all, take_more, take_more_set, take_rest, flat_map_more, get_or-set_same}
+use Rattle.std.proofs.lemmas.List.{drop_more, drop_all, drop-drop, take-append-drop, take_all, take_more, take_more_set, take_rest, flat_map_more, get_or-set_same}
 use borrow.Rule.Slice.PartMut.{put_mid}
 use Rattle.std.proofs.lemmas.Slice.{take-put_mid}
 use Rattle.std.specs.List.{flat_map}
@@ -32,6 +32,10 @@ time_from a b c d n p q r s e =
     let l2 = low c d (n / 256 / 256) r l1.1 in
     let l3 = low d 0 (n / 256 / 256 / 256) s (omega (arith, l2.1)) in
     cc (l0.0, l1.0, l2.0, l3.0)
+
+-- the next four entries, and the rest
+pub next_four : (xs : List ℕ) (i j : ℕ) → i + 4 ≡ j → drop i xs ≡ take 4 (drop i xs) ++ drop j xs
+next_four xs i j e = sym (take-append-drop 4 (drop i xs)) ∙ ap (λ ys. take 4 (drop i xs) ++ ys) (drop-drop 4 i xs ∙ ap (λ k. drop k xs) e)
 
 -- four entries more
 four_more : (xs : List ℕ) (i : ℕ) → take (4 * (i + 1)) (drop 2 xs) ≡ take (4 * i) (drop 2 xs) ++ take 4 (drop (2 + 4 * i) xs)
