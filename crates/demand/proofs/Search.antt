@@ -1,8 +1,9 @@
 -- Where a search for the least time that covers may begin, and how far each step may go. Assumes nothing.
-use Rattle.std.proofs.Common.{◌≡◌, ℕ, ◌+◌, ◌-◌, ◌*◌, ◌/◌, ◌<◌, ◌≤◌, List, Option, ap, inl, inr, mul-le-mul_right, mul_assoc, mul_comm, mul-le-mul_left, mul-suc, mul-add, div-mul-le_self, arith}
+use Rattle.std.proofs.Common.{◌≡◌, ℕ, ◌+◌, ◌-◌, ◌*◌, ◌/◌, ◌<◌, ◌≤◌, List, Some, None, Option, refl, ap, inl, inr, mul-le-mul_right, mul_assoc, mul_comm, mul-le-mul_left, mul-suc, mul-add, div-mul-le_self, arith}
+use Rattle.demand.proofs.Bounds.{LawfulAt}
 use Rattle.demand.proofs.Monotone.{interference_mono}
 use Rattle.demand.proofs.Rounding.{ceil_cover, ceil_least}
-use Rattle.demand.specs.Demand.{ceil_div, releases, interference, Covers}
+use Rattle.demand.specs.Demand.{ceil_div, releases, cost, share, rate, interference, Covers}
 use Rattle.demand.specs.declared.mode.Mode.{Mode}
 use Rattle.std.proofs.lemmas.Bool.{cases_lt}
 use Rattle.tasks.specs.Sets.{members}
@@ -16,6 +17,10 @@ rate_le c p t h =
     let a = mul-le-mul_right q (ceil_cover p t h) in
     let b = mul-le-mul_left n (div-mul-le_self (c * 1000000) p) in
     omega (arith, mul_assoc n p q, mul_comm p q, mul_assoc n c 1000000, mul_comm n c)
+
+pub rate_share : (m : Mode) (t : ℕ) (o : Option Row) → LawfulAt o → t * rate m o ≤ share m t o * 1000000
+rate_share m t (Some r) b = let l = b r refl in rate_le (cost m r) r.period t (omega arith)
+rate_share m t None b = omega arith
 
 -- no time covers more than the whole processor
 pub full : (c u i t : ℕ) → t * u ≤ i * 1000000 → 1000000 ≤ u → 1000000 < u + c → 1 ≤ t → c + i ≤ t → ⊥

@@ -23,6 +23,11 @@ abbrev pub share : Mode → ℕ → Option Row → ℕ
 share m t (Some r) = cost m r * releases r.period t
 share m t None = 0
 
+-- the millionths of the processor that the task at a place takes at least, rounded down; none at an empty place
+abbrev pub rate : Mode → Option Row → ℕ
+rate m (Some r) = cost m r * 1000000 / r.period
+rate m None = 0
+
 -- what the tasks of a list ask for in t ticks
 abbrev pub interference : Mode → List (Option Row) → List ℕ → ℕ → ℕ
 interference m ps [] t = 0

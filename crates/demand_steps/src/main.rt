@@ -2,19 +2,14 @@
 // measured here, over the public call of the library, and not proved.
 #![tactic(auto)]
 
-ghost use Rattle.std.specs.Prelude.{◌≡◌};
-
-use anyhow::anyhow;
-use demand::mode::Mode;
+use anyhow::ensure;
+use demand::mode::{Mode, WHOLE};
 use demand::{demand, response};
+use samples::row::row;
 use tasks::kind::Kind;
 use tasks::record::{LAST, LONGEST};
-use tasks::row::Row;
 use tasks::set::TaskSet;
 use tasks::table::Table;
-
-// The whole processor, in the parts that the search counts rates in.
-const WHOLE: u64 = 1_000_000;
 
 // The last task, the tasks above it, and where the search begins, if it does.
 #[derive(Clone, Copy)]
@@ -30,42 +25,20 @@ struct Walk {
     answer: Option<u32>,
 }
 
-fn row(cost: u32, period: u32) -> Row
-    ensures { (result.deadline ≡ period) × (result.period ≡ period) }
-{
-    Row {
-        kind: Kind::Strict,
-        normal: cost,
-        abnormal: cost,
-        section: 0,
-        deadline: period,
-        period,
-    }
-}
-
 impl Search {
     // Each task above is its cost and its period.
     fn new(cost: u32, loads: &[(u32, u32)]) -> anyhow::Result<Search> {
         let mut table = Table::empty();
-        let Ok(()) = table.enter(LAST, row(cost, LONGEST)) else {
-            return Err(anyhow!("a task outside the bounds"));
-        };
+        table.enter(LAST, row(Kind::Strict, cost, cost, 0, LONGEST))?;
         let mut taken = 0u64;
         for (number, (cost, period)) in (0..LAST).zip(loads) {
-            let Ok(()) = table.enter(number, row(*cost, *period)) else {
-                return Err(anyhow!("a task outside the bounds"));
-            };
+            table.enter(number, row(Kind::Strict, *cost, *cost, 0, *period))?;
             taken = taken.saturating_add(*cost as u64 * WHOLE / *period as u64);
         }
-        let first = if taken < WHOLE {
-            Some((cost as u64 * WHOLE).div_ceil(WHOLE - taken))
-        } else {
-            None
-        };
         Ok(Search {
             table,
             above: table.tasks().without(LAST),
-            first,
+            first: (taken < WHOLE).then(|| (cost as u64 * WHOLE).div_ceil(WHOLE - taken)),
         })
     }
 
@@ -122,12 +95,14 @@ fn tell(rt: &HostRuntime, name: &str, cost: u32, loads: &[(u32, u32)]) -> anyhow
     let search = Search::new(cost, loads)?;
     let Walk { sums, answer } = search.walk();
     let most = search.most_sums();
-    if answer != response(&search.table, LAST, search.above, Mode::Normal) {
-        return Err(anyhow!("the walk does not end at the response time"));
-    }
-    if sums > most {
-        return Err(anyhow!("the walk makes more sums than the demand has values"));
-    }
+    ensure!(
+        answer == response(&search.table, LAST, search.above, Mode::Normal),
+        "the walk does not end at the response time"
+    );
+    ensure!(
+        sums <= most,
+        "the walk makes more sums than the demand has values"
+    );
     match answer {
         Some(time) => println!(rt; "{name}: {sums} of at most {most}, response {time}")?,
         None => println!(rt; "{name}: {sums} of at most {most}, response absent")?,

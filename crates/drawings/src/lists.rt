@@ -1,5 +1,5 @@
 // The three lists that a drawing writes.
-use anyhow::anyhow;
+use anyhow::ensure;
 use schedule::job::{Finish, Job};
 use std::alloc::{AllocError, Global};
 use tasks::standing::Standing;
@@ -25,23 +25,22 @@ const OLD_WAITING: Waiting = Waiting {
     left: 3,
 };
 
-const NO_COMING: Coming = Coming {
-    release: 0,
-    index: 0,
-};
-
-const NO_WAITING: Waiting = Waiting {
-    place: 0,
-    release: 0,
-    index: 0,
-    left: 0,
-};
-
 #[derive(Clone, Copy)]
 pub(crate) struct Lengths {
     pub(crate) finishes: usize,
     pub(crate) coming: usize,
     pub(crate) waiting: usize,
+}
+
+impl Lengths {
+    // The same for each list.
+    pub(crate) fn all(len: usize) -> Lengths {
+        Lengths {
+            finishes: len,
+            coming: len,
+            waiting: len,
+        }
+    }
 }
 
 #[derive(Drop)]
@@ -65,35 +64,23 @@ impl Lists {
         draw(
             standing,
             jobs,
-            self.finishes.as_mut_slice(),
-            self.coming.as_mut_slice(),
-            self.waiting.as_mut_slice(),
+            &mut self.finishes,
+            &mut self.coming,
+            &mut self.waiting,
         )
     }
 
     // Whether the finish list begins with these finishes and then holds what it held.
     fn begins_with(&self, finishes: &[Finish]) -> bool {
-        for (i, finish) in self.finishes.iter().enumerate() {
-            if *finish != finishes.get(i).copied().unwrap_or(OLD_FINISH) {
-                return false;
-            }
-        }
-        finishes.len() <= self.finishes.len()
+        self.finishes
+            .strip_prefix(finishes)
+            .is_some_and(|rest| rest.iter().all(|finish| *finish == OLD_FINISH))
     }
 
     // Whether the working lists hold nothing but these two entries.
     fn works_hold(&self, release: Coming, turn: Waiting) -> bool {
-        for entry in self.coming.iter() {
-            if *entry != release {
-                return false;
-            }
-        }
-        for entry in self.waiting.iter() {
-            if *entry != turn {
-                return false;
-            }
-        }
-        true
+        self.coming.iter().all(|entry| *entry == release)
+            && self.waiting.iter().all(|entry| *entry == turn)
     }
 
     pub(crate) fn is_untouched(&self) -> bool {
@@ -110,14 +97,14 @@ pub(crate) fn hold(
     lengths: Lengths,
 ) -> anyhow::Result<()> {
     let mut lists = Lists::new(heap, lengths)?;
-    if lists.fill(standing, jobs).is_err() {
-        return Err(anyhow!("a drawing is refused"));
-    }
-    if finishes.len() != jobs.len() || !lists.begins_with(finishes) {
-        return Err(anyhow!("a finish list differs"));
-    }
-    if !lists.works_hold(NO_COMING, NO_WAITING) {
-        return Err(anyhow!("a working list is not all zeros"));
-    }
+    lists.fill(standing, jobs)?;
+    ensure!(
+        finishes.len() == jobs.len() && lists.begins_with(finishes),
+        "a finish list differs"
+    );
+    ensure!(
+        lists.works_hold(Coming::default(), Waiting::default()),
+        "a working list is not all zeros"
+    );
     Ok(())
 }

@@ -1,9 +1,10 @@
 // The longest job lists, where every finish is known beforehand.
 use crate::lists::{Lengths, hold};
-use crate::rosters::{Roster, job, row};
-use anyhow::anyhow;
+use crate::rosters::{job, standing_of, timed};
 use schedule::job::{Finish, Job};
 use std::alloc::{AllocError, Global};
+use tasks::record::LONGEST;
+use tasks::row::Row;
 use tasks::standing::Standing;
 
 const JOBS: usize = 4_096;
@@ -12,15 +13,12 @@ const TASKS: u8 = 32;
 // of each task, where there are 32
 const ROUNDS: u32 = 128;
 
-const LONGEST: u32 = 1_000_000;
-
-// As many jobs as a timetable is drawn for, and the finish that each is to have.
+// As many jobs as a timetable is drawn for, and the finish that each is to have. A drawing takes the jobs alone and gives the finishes
+// alone, so they stand in two lists and not in pairs.
 #[derive(Drop)]
 struct Plan {
     jobs: Vec<Job>,
     finishes: Vec<Finish>,
-    // the last of the finishes
-    last: u64,
 }
 
 impl Plan {
@@ -28,13 +26,11 @@ impl Plan {
         Plan {
             jobs: Vec::new(heap),
             finishes: Vec::new(heap),
-            last: 0,
         }
     }
 
     // A job that is to end at a tick; its deadline is its period.
     fn push(&mut self, job: Job, period: u32, end: u64) -> Result<(), AllocError> {
-        self.last = self.last.max(end);
         self.jobs.push(job)?;
         self.finishes.push(Finish {
             finish: end,
@@ -45,36 +41,25 @@ impl Plan {
 }
 
 // Draws the plan, also with the jobs listed the other way round.
-fn tell(
-    rt: &HostRuntime,
-    name: &str,
-    standing: &Standing,
-    made: Result<Plan, AllocError>,
-) -> anyhow::Result<()> {
-    let mut plan = made?;
-    let lengths = Lengths {
-        finishes: JOBS,
-        coming: JOBS,
-        waiting: JOBS,
-    };
+fn tell(rt: &HostRuntime, name: &str, standing: &Standing, mut plan: Plan) -> anyhow::Result<()> {
+    let lengths = Lengths::all(JOBS);
     hold(rt.alloc(), standing, &plan.jobs, &plan.finishes, lengths)?;
     plan.jobs.reverse();
     plan.finishes.reverse();
     hold(rt.alloc(), standing, &plan.jobs, &plan.finishes, lengths)?;
-    let last = plan.last;
+    let ends = plan.finishes.iter().map(|finish| finish.finish);
+    let last = ends.max().unwrap_or(0);
     println!(rt; "{name}: last finish {last}")?;
     Ok(())
 }
 
 // The first tasks in this order, all with one period.
-fn first_tasks(count: u8, period: u32) -> anyhow::Result<Standing> {
-    let mut roster = Roster::empty();
-    for number in 0..count {
-        if !roster.add(number, row(LONGEST, period, period)) {
-            return Err(anyhow!("a task is refused"));
-        }
-    }
-    roster.standing()
+fn first_tasks(heap: Global, count: u8, period: u32) -> anyhow::Result<Standing> {
+    let row = timed(LONGEST, period, period);
+    let tasks = (0..count)
+        .map(|number| (number, row))
+        .collect::<Vec<(u8, Row)>>(heap)?;
+    Ok(standing_of(&tasks)?)
 }
 
 // Each job waits for all that are released before it.
@@ -125,32 +110,32 @@ fn interrupted(heap: Global, first: u32) -> Result<Plan, AllocError> {
 
 pub(crate) fn draw_longest(rt: &HostRuntime) -> anyhow::Result<()> {
     let heap = rt.alloc();
-    let standing = first_tasks(1, 244_140)?;
-    tell(rt, "one task", &standing, one_task(heap, 0, 244_140))?;
-    let standing = first_tasks(TASKS, 1)?;
+    let standing = first_tasks(heap, 1, 244_140)?;
+    tell(rt, "one task", &standing, one_task(heap, 0, 244_140)?)?;
+    let standing = first_tasks(heap, TASKS, 1)?;
     tell(
         rt,
         "one task of 32, late",
         &standing,
-        one_task(heap, 999_995_905, 1),
+        one_task(heap, 999_995_905, 1)?,
     )?;
     tell(
         rt,
         "32 tasks, late",
         &standing,
-        task_by_task(heap, 999_999_873, 1),
+        task_by_task(heap, 999_999_873, 1)?,
     )?;
-    let standing = first_tasks(TASKS, LONGEST)?;
+    let standing = first_tasks(heap, TASKS, LONGEST)?;
     tell(
         rt,
         "32 tasks",
         &standing,
-        task_by_task(heap, 873_000_000, LONGEST),
+        task_by_task(heap, 873_000_000, LONGEST)?,
     )?;
     tell(
         rt,
         "32 tasks, interrupted",
         &standing,
-        interrupted(heap, 872_690_000),
+        interrupted(heap, 872_690_000)?,
     )
 }

@@ -3,55 +3,30 @@
 
 ghost use Rattle.std.specs.Prelude.{◌<◌, IfOk};
 
-use anyhow::anyhow;
+use anyhow::{Context, bail};
 use roster_file::fault::FileFault;
 use roster_file::read::read;
 use std::alloc::Global;
-use std::{fmt, fs};
+use std::fs;
 use tasks::order::Order;
-use tasks::record::LAST;
-use tasks::refusal::{Fault, Refusal};
+use tasks::refusal::Fault;
 use tasks::table::Table;
 
-// A refusal as `number layer place`.
-#[derive(Clone, Copy)]
-struct Told(Refusal);
-
-impl fmt::Display for Told {
-    fn fmt<W: fmt::Write>(&self, f: &mut fmt::Formatter<W>) -> fmt::Result {
-        let Told(refusal) = *self;
-        let number = refusal.number;
-        let layer = refusal.layer;
-        let place = refusal.place;
-        write!(f, "{number} {layer:?} {place}")
-    }
-}
-
 // What a reading is handed, and fills.
-#[derive(Clone, Copy)]
+#[derive(Clone, Copy, PartialEq, Eq)]
 struct Held {
     table: Table,
     order: Order,
 }
 
-impl Held {
-    fn is_same(&self, other: &Held) -> bool {
-        for number in 0..=LAST {
-            if self.table.row(number) != other.table.row(number) {
-                return false;
-            }
-        }
-        self.order.as_slice() == other.order.as_slice()
-    }
-}
-
+// By hand, since `to_digit` takes capitals too.
 fn digit(byte: u8) -> anyhow::Result<u8>
     ensures { IfOk result (λ d. d < 16) }
 {
     match byte {
         b'0'..=b'9' => Ok(byte - b'0'),
         b'a'..=b'f' => Ok(byte - b'a' + 10),
-        _ => Err(anyhow!("a byte that is no hexadecimal digit")),
+        _ => bail!("a byte that is no hexadecimal digit"),
     }
 }
 
@@ -59,7 +34,7 @@ fn bytes(heap: Global, hex: &str) -> anyhow::Result<Vec<u8>> {
     let mut file = Vec::new(heap);
     for pair in hex.as_bytes().chunks(2) {
         let [high, low] = pair else {
-            return Err(anyhow!("a byte of one digit"));
+            bail!("a byte of one digit");
         };
         file.push(digit(*high)? * 16 + digit(*low)?)?;
     }
@@ -75,13 +50,13 @@ fn tell(rt: &HostRuntime, name: &str, file: &[u8], held: &mut Held) -> anyhow::R
             println!(rt; "{name}: accepted {tasks} tasks, order of {places}")?;
         }
         Err(fault) => {
-            let outer = Told(fault.refusal());
+            let outer = fault.refusal();
             print!(rt; "{name}: {outer}")?;
             if let FileFault::Entry(located) = fault {
-                let inner = Told(located.fault.refusal());
+                let inner = located.fault.refusal();
                 print!(rt; ", inside {inner}")?;
             }
-            let kept = if held.is_same(&before) {
+            let kept = if *held == before {
                 ""
             } else {
                 ", table or order changed"
@@ -100,9 +75,7 @@ fn run(rt: &HostRuntime) -> anyhow::Result<()> {
         order: Order::empty(),
     };
     for line in cases.as_str().lines() {
-        let Some((name, hex)) = line.split_once(';') else {
-            return Err(anyhow!("a case with no ;"));
-        };
+        let (name, hex) = line.split_once(';').context("a case with no ;")?;
         let file = bytes(rt.alloc(), hex)?;
         tell(rt, name, &file, &mut held)?;
     }

@@ -4,10 +4,11 @@
 mod plain;
 
 use crate::plain::holds;
-use anyhow::anyhow;
 use roster_file::fault::FileFault;
 use roster_file::read::read;
 use roster_file::write::to_vec;
+use samples::roster::Roster;
+use tasks::fault::EntryFault;
 use tasks::kind::Kind;
 use tasks::order::Order;
 use tasks::record::LAST;
@@ -35,12 +36,10 @@ fn is_agreed(file: &[u8]) -> bool {
     let mut table = Table::empty();
     let mut order = Order::empty();
     let answer = read(file, &mut table, &mut order);
-    match holds(file, &table, &order) {
-        Ok(same) => same && answer.is_ok(),
-        Err(said) => match answer {
-            Ok(()) => false,
-            Err(fault) => said.outer == fault.refusal() && said.inner == inside(fault),
-        },
+    match (holds(file, &table, &order), answer) {
+        (Ok(same), Ok(())) => same,
+        (Err(said), Err(fault)) => said.outer == fault.refusal() && said.inner == inside(fault),
+        _ => false,
     }
 }
 
@@ -63,6 +62,7 @@ impl Tally {
 // Every byte at all values, and every cut.
 fn damage(file: &mut [u8]) -> Tally {
     let mut tally = Tally { files: 0, other: 0 };
+    // by index: the whole file is read while one of its bytes differs
     for at in 0..file.len() {
         let byte = file[at];
         for value in 0..=u8::MAX {
@@ -72,17 +72,16 @@ fn damage(file: &mut [u8]) -> Tally {
         file[at] = byte;
     }
     for end in 0..=file.len() {
-        tally.take(&file[0..end]);
+        tally.take(&file[..end]);
     }
     tally
 }
 
 // A task in every place, the last number first in the order.
-fn full() -> Option<Standing> {
-    let mut table = Table::empty();
-    let mut order = Order::empty();
-    for k in 0..=LAST {
-        let time = k as u32 + 1;
+fn full() -> Result<Standing, EntryFault> {
+    let mut roster = Roster::empty();
+    for k in (0..=LAST).rev() {
+        let time = u32::from(k) + 1;
         let row = Row {
             kind: Kind::Strict,
             normal: time,
@@ -91,11 +90,9 @@ fn full() -> Option<Standing> {
             deadline: 999_000 + time,
             period: 999_900 + time,
         };
-        if table.enter(k, row).is_err() || !order.push(LAST - k) {
-            return None;
-        }
+        roster.add(k, row)?;
     }
-    Standing::new(table, order)
+    Ok(roster.standing())
 }
 
 fn tell(rt: &HostRuntime, name: &str, file: &mut [u8]) -> anyhow::Result<()> {
@@ -107,9 +104,7 @@ fn tell(rt: &HostRuntime, name: &str, file: &mut [u8]) -> anyhow::Result<()> {
 fn run(rt: &HostRuntime) -> anyhow::Result<()> {
     let mut two = TWO;
     tell(rt, "two tasks", &mut two)?;
-    let Some(standing) = full() else {
-        return Err(anyhow!("32 tasks that are none"));
-    };
+    let standing = full()?;
     let mut all = to_vec(rt.alloc(), &standing)?;
     tell(rt, "32 tasks", all.as_mut_slice())
 }

@@ -1,5 +1,6 @@
-// A second reader of roster files, written plainly over byte offsets, to hold the library's against.
-ghost use Rattle.std.specs.Prelude.{◌≡◌, ◌+◌, ◌*◌, ◌≤◌, length};
+// A second reader of roster files, to hold the library's against. It is written plainly over byte offsets and with bare numbers, and takes
+// nothing of the library's ways, nor of std's conversions that the library uses: else both could be wrong alike.
+ghost use Rattle.std.specs.Prelude.{◌+◌, ◌≤◌, length};
 
 use tasks::kind::Kind;
 use tasks::order::Order;
@@ -16,18 +17,9 @@ pub(crate) struct Said {
     pub inner: Option<Refusal>,
 }
 
-fn told(number: u8, layer: Layer, place: usize) -> Refusal {
-    Refusal {
-        number,
-        layer,
-        place,
-        innermost: number,
-    }
-}
-
 fn plainly(number: u8, place: usize) -> Said {
     Said {
-        outer: told(number, Layer::File, place),
+        outer: Refusal::new(number, Layer::File, place),
         inner: None,
     }
 }
@@ -35,10 +27,10 @@ fn plainly(number: u8, place: usize) -> Said {
 fn time(file: &[u8], at: usize) -> u32
     requires { «at» + 4 ≤ length file.now }
 {
-    file[at + 3] as u32 * 16_777_216
-        + file[at + 2] as u32 * 65_536
-        + file[at + 1] as u32 * 256
-        + file[at] as u32
+    u32::from(file[at + 3]) * 16_777_216
+        + u32::from(file[at + 2]) * 65_536
+        + u32::from(file[at + 1]) * 256
+        + u32::from(file[at])
 }
 
 fn row(file: &[u8], at: usize) -> Row
@@ -59,105 +51,83 @@ fn row(file: &[u8], at: usize) -> Row
     }
 }
 
-// The number of the first bound that a record breaks, or 0.
-fn broken(number: u8, row: Row) -> u8 {
+// The number of the first bound that a record breaks.
+fn broken(number: u8, row: Row) -> Option<u8> {
     if number > 31 {
-        1
+        Some(1)
     } else if row.normal == 0 || row.abnormal < row.normal || MOST < row.abnormal {
-        2
+        Some(2)
     } else if row.deadline == 0 || row.period < row.deadline || MOST < row.period {
-        3
+        Some(3)
     } else if row.normal < row.section {
-        4
+        Some(4)
     } else {
-        0
+        None
     }
 }
 
-// Why the record that begins at an offset does not stand, after so many others.
-fn record_said(file: &[u8], before: usize, at: usize) -> Option<Said>
-    requires { («at» ≡ 2 + 22 * before) × («at» + 22 ≤ length file.now) }
+// Why the record that begins at an offset, after the others, does not stand.
+fn stands(file: &[u8], at: usize) -> Result<(), Said>
+    requires { (2 ≤ «at») × («at» + 22 ≤ length file.now) }
 {
     if file[at + 1] > 1 {
-        return Some(plainly(17, at + 1));
+        return Err(plainly(17, at + 1));
     }
     let number = file[at];
-    let mut inner = told(
-        broken(number, row(file, at)),
-        Layer::Record,
-        number as usize,
-    );
-    if inner.number == 0 {
-        for k in 0..before {
-            if file[2 + 22 * k] == number {
-                inner = told(5, Layer::Roster, number as usize);
-            }
-        }
-    }
-    if inner.number == 0 {
-        return None;
-    }
-    Some(Said {
-        outer: told(inner.number, Layer::File, at),
+    let place = usize::from(number);
+    let inner = if let Some(bound) = broken(number, row(file, at)) {
+        Refusal::new(bound, Layer::Record, place)
+    } else if file[2..at].chunks(22).any(|other| other[0] == number) {
+        Refusal::new(5, Layer::Roster, place)
+    } else {
+        return Ok(());
+    };
+    Err(Said {
+        outer: Refusal::new(inner.number, Layer::File, at),
         inner: Some(inner),
     })
 }
 
-// Whether each of so many tasks stands once among as many numbers.
-fn names_each(file: &[u8], count: usize, order: &[u8]) -> bool
-    requires { 2 + 22 * count ≤ length file.now }
-{
-    for k in 0..count {
-        let mut found = false;
-        for number in order {
-            if *number == file[2 + 22 * k] {
-                if found {
-                    return false;
-                }
-                found = true;
-            }
-        }
-        if !found {
-            return false;
-        }
-    }
-    order.len() == count
+// Whether each of these records stands once among as many numbers.
+fn names_each(records: &[u8], order: &[u8]) -> bool {
+    records.len() / 22 == order.len()
+        && records.chunks(22).map(|record| record[0]).all(|task| order
+            .iter()
+            .filter(|number| **number == task)
+            .count()
+            == 1)
 }
 
 // What a file is refused for, or whether this table and this order are what it holds.
 pub(crate) fn holds(file: &[u8], table: &Table, order: &Order) -> Result<bool, Said> {
     let end = file.len();
-    if end == 0 || file[0] != 1 {
+    if file.first() != Some(&1) {
         return Err(plainly(14, 0));
     }
-    if end == 1 {
-        return Err(plainly(15, end));
-    }
-    let count = file[1] as usize;
+    let count = usize::from(*file.get(1).ok_or(plainly(15, end))?);
     if count > 32 {
         return Err(plainly(16, 1));
     }
     let mut same = table.tasks().len() as usize == count;
+    // by offset, which the refusals tell
     for k in 0..count {
         let at = 2 + 22 * k;
         if at + 22 > end {
             return Err(plainly(15, end));
         }
-        if let Some(said) = record_said(file, k, at) {
-            return Err(said);
-        }
+        stands(file, at)?;
         same &= table.row(file[at]) == Some(row(file, at));
     }
     let at = 2 + 22 * count;
     if at >= end {
         return Err(plainly(15, end));
     }
-    let past = at + 1 + file[at] as usize;
+    let past = at + 1 + usize::from(file[at]);
     if past > end {
         return Err(plainly(15, end));
     }
     let numbers = &file[at + 1..past];
-    if !numbers.is_empty() && !names_each(file, count, numbers) {
+    if !numbers.is_empty() && !names_each(&file[2..at], numbers) {
         return Err(plainly(18, at));
     }
     if past < end {

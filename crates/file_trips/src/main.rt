@@ -1,11 +1,13 @@
 // Writes rosters and reads them back: tables of 0, 1, 2 and 32 tasks, and the tasks of the shipped examples.
 #![tactic(auto)]
 
-use anyhow::anyhow;
+use anyhow::Context;
 use roster_file::read::read;
 use roster_file::round_trip::rewrite;
 use roster_file::write::{to_vec, write};
+use samples::roster::Roster;
 use std::fs;
+use tasks::fault::SpaceFault;
 use tasks::kind::Kind;
 use tasks::order::Order;
 use tasks::record::LAST;
@@ -27,14 +29,13 @@ const EXAMPLES: [&str; 3] = [
 
 // Lawful, and with times whose bytes differ, for each number.
 fn row(number: u8) -> Row {
-    let n = number as u32;
-    let kind = if number % 2 == 0 {
-        Kind::Tolerable
-    } else {
-        Kind::Strict
-    };
+    let n = u32::from(number);
     Row {
-        kind,
+        kind: if number % 2 == 0 {
+            Kind::Tolerable
+        } else {
+            Kind::Strict
+        },
         normal: 66_051 + n,
         abnormal: 263_430 + n,
         section: 1_800 + n,
@@ -44,86 +45,55 @@ fn row(number: u8) -> Row {
 }
 
 // So many tasks, from the last number down, in the order in which they came.
-fn roster(tasks: u8) -> anyhow::Result<Standing> {
-    let mut table = Table::empty();
-    let mut order = Order::empty();
-    for k in 0..tasks {
-        let number = LAST.saturating_sub(k);
-        if table.enter(number, row(number)).is_err() || !order.push(number) {
-            return Err(anyhow!("more tasks than places"));
-        }
+fn roster(tasks: usize) -> anyhow::Result<Standing> {
+    let mut roster = Roster::empty();
+    for number in (0..=LAST).rev().take(tasks) {
+        roster.add(number, row(number))?;
     }
-    let Some(standing) = Standing::new(table, order) else {
-        return Err(anyhow!("an order that is none"));
-    };
-    Ok(standing)
+    Ok(roster.standing())
 }
 
 // The tasks of a file, ordered by rising number.
 fn example(file: &[u8]) -> anyhow::Result<Standing> {
     let mut table = Table::empty();
     let mut order = Order::empty();
-    if read(file, &mut table, &mut order).is_err() {
-        return Err(anyhow!("an example that is refused"));
-    }
+    read(file, &mut table, &mut order)?;
     let mut by_number = Order::empty();
-    for number in 0..=LAST {
-        if table.row(number).is_some() && !by_number.push(number) {
-            return Err(anyhow!("more tasks than places"));
-        }
+    for number in table.tasks() {
+        by_number.push(number);
     }
-    let Some(standing) = Standing::new(table, by_number) else {
-        return Err(anyhow!("an order that is none"));
-    };
-    Ok(standing)
+    Standing::new(table, by_number).context("an order that is none")
 }
 
 fn is_read_back(file: &[u8], standing: &Standing) -> bool {
     let mut table = Table::empty();
     let mut order = Order::empty();
-    if read(file, &mut table, &mut order).is_err() {
-        return false;
-    }
-    for number in 0..=LAST {
-        if table.row(number) != standing.table().row(number) {
-            return false;
-        }
-    }
-    order.as_slice() == standing.order().as_slice()
+    read(file, &mut table, &mut order).is_ok()
+        && table == *standing.table()
+        && order == *standing.order()
+}
+
+fn is_untouched(space: &[u8]) -> bool {
+    space.iter().all(|byte| *byte == MARK)
 }
 
 // Whether a space one byte shorter is refused, with the length told, and left as it was.
 fn is_short_refused(short: &mut [u8], standing: &Standing, needed: usize) -> bool {
-    let Err(fault) = write(standing, short) else {
-        return false;
-    };
-    for byte in &*short {
-        if *byte != MARK {
-            return false;
-        }
-    }
-    fault.needed == needed
+    write(standing, short) == Err(SpaceFault { needed }) && is_untouched(short)
 }
 
 // Whether the file, written again, is the same, and the space beyond it is as it was.
 fn is_rewritten(file: &[u8]) -> bool {
     let mut space = [MARK; SPACE];
-    let Ok(Some(len)) = rewrite(file, &mut space) else {
-        return false;
-    };
-    for (i, byte) in space.iter().enumerate() {
-        let expected = if i < file.len() { file[i] } else { MARK };
-        if *byte != expected {
-            return false;
-        }
-    }
-    len == file.len()
+    rewrite(file, &mut space) == Ok(Some(file.len()))
+        && space.strip_prefix(file).is_some_and(is_untouched)
 }
 
 fn tell(rt: &HostRuntime, name: &str, standing: &Standing) -> anyhow::Result<()> {
     let file = to_vec(rt.alloc(), standing)?;
     let len = file.len();
     let mut short = vec![in rt.alloc(); MARK; len.saturating_sub(1)]?;
+    // a chain, since no question hands a value on: errors and `?` would name each text a second time
     let verdict = if !is_read_back(&file, standing) {
         "not the same when read back"
     } else if !is_rewritten(&file) {

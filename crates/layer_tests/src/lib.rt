@@ -6,6 +6,8 @@ mod always;
 #[cfg(test)]
 mod openings;
 #[cfg(test)]
+mod reserves;
+#[cfg(test)]
 mod tables;
 #[cfg(test)]
 mod values;

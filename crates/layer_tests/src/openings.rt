@@ -1,10 +1,11 @@
 // Every test and every layer refuses the questions that make no sense, where its own rule would say yes.
 use crate::always::Always;
+use crate::reserves::reserved;
 use crate::tables::{only, roomy};
+use demand::mode::Mode;
 use own_test::few_above::FewAbove;
 use own_test::layered::layered;
 use schedulability::pair::Pair;
-use schedulability::reserve::Reserve;
 use schedulability::strict_only::StrictOnly;
 use schedulability::test::Test;
 use std::process::Abort;
@@ -19,48 +20,28 @@ use tests::sections::Sections;
 fn opens<T: Test + Drop>(rt: &impl Abort, name: &str, mut test: T) -> Result<(), Fail> {
     let table = roomy()?;
     let none = TaskSet::empty();
-    assert!(rt;
-        test.passes(&table, 1, only(2)),
-        "{name}: a proper question, tolerable"
-    );
-    assert!(rt;
-        test.passes(&table, 2, only(1)),
-        "{name}: a proper question, strict"
-    );
-    assert!(rt;
-        !test.passes(&table, 32, none),
-        "{name}: the number after the last"
-    );
-    assert!(rt;
-        !test.passes(&table, 255, none),
-        "{name}: the largest number"
-    );
-    assert!(rt; !test.passes(&table, 3, none), "{name}: an empty place");
-    assert!(rt;
-        !test.passes(&table, 1, only(1)),
-        "{name}: above itself, tolerable"
-    );
-    assert!(rt;
-        !test.passes(&table, 2, only(2)),
-        "{name}: above itself, strict"
-    );
-    assert!(rt;
-        !test.passes(&table, 1, only(3)),
-        "{name}: an empty place above, tolerable"
-    );
-    assert!(rt;
-        !test.passes(&table, 2, only(3)),
-        "{name}: an empty place above, strict"
-    );
+    for (task, above, answer, case) in [
+        (1, only(2), true, "a proper question, tolerable"),
+        (2, only(1), true, "a proper question, strict"),
+        (32, none, false, "the number after the last"),
+        (255, none, false, "the largest number"),
+        (3, none, false, "an empty place"),
+        (1, only(1), false, "above itself, tolerable"),
+        (2, only(2), false, "above itself, strict"),
+        (1, only(3), false, "an empty place above, tolerable"),
+        (2, only(3), false, "an empty place above, strict"),
+    ] {
+        assert!(rt;
+            test.passes(&table, task, above) == answer,
+            "{name}: {case}"
+        );
+    }
     Ok(())
 }
 
 // The same for each layer over a test.
 fn layers_open<T: Test + Copy>(rt: &impl Abort, test: T) -> Result<(), Fail> {
-    let Ok(reserve) = Reserve::new(4, test) else {
-        return Err(Fail::new("the reserve is refused"));
-    };
-    opens(rt, "reserve", reserve)?;
+    opens(rt, "reserve", reserved(4, test)?)?;
     opens(
         rt,
         "pair",
@@ -75,8 +56,8 @@ fn layers_open<T: Test + Copy>(rt: &impl Abort, test: T) -> Result<(), Fail> {
 
 #[test]
 fn every_test_opens(rt: HostRuntime) -> Result<(), Fail> {
-    opens(&rt, "normal", InTime::normal())?;
-    opens(&rt, "abnormal", InTime::abnormal())?;
+    opens(&rt, "normal", InTime::new(Mode::Normal))?;
+    opens(&rt, "abnormal", InTime::new(Mode::Abnormal))?;
     opens(&rt, "sections", Sections)?;
     opens(&rt, "load", Load::new(1_000_000)?)?;
     opens(&rt, "guarantee", guarantee())?;
@@ -87,6 +68,6 @@ fn every_test_opens(rt: HostRuntime) -> Result<(), Fail> {
 fn every_layer_opens(rt: HostRuntime) -> Result<(), Fail> {
     layers_open(&rt, Always)?;
     layers_open(&rt, FewAbove::new(1))?;
-    layers_open(&rt, InTime::normal())?;
+    layers_open(&rt, InTime::new(Mode::Normal))?;
     layers_open(&rt, Sections)
 }

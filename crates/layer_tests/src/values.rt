@@ -1,4 +1,5 @@
 // Answers worked out by hand.
+use crate::reserves::reserved;
 use crate::tables::{blocking, only, tight};
 use demand::mode::Mode;
 use demand::response;
@@ -16,15 +17,6 @@ use tests::load::Load;
 use tests::response::InTime;
 use tests::sections::Sections;
 
-fn pile(number: u8, value: usize) -> Refusal {
-    Refusal {
-        number,
-        layer: Layer::Pile,
-        place: value,
-        innermost: number,
-    }
-}
-
 #[test]
 fn response_times(rt: HostRuntime) -> Result<(), Fail> {
     let table = tight()?;
@@ -33,8 +25,8 @@ fn response_times(rt: HostRuntime) -> Result<(), Fail> {
     assert_eq!(rt; response(&table, 2, none, Mode::Abnormal), Some(6));
     assert_eq!(rt; response(&table, 1, only(2), Mode::Normal), Some(6));
     assert_eq!(rt; response(&table, 1, only(2), Mode::Abnormal), None);
-    assert!(rt; InTime::normal().passes(&table, 1, only(2)));
-    assert!(rt; !InTime::abnormal().passes(&table, 1, only(2)));
+    assert!(rt; InTime::new(Mode::Normal).passes(&table, 1, only(2)));
+    assert!(rt; !InTime::new(Mode::Abnormal).passes(&table, 1, only(2)));
     Ok(())
 }
 
@@ -53,7 +45,10 @@ fn load_refused(rt: &impl Abort, limit: u32) -> Result<(), Fail> {
         return Err(Fail::new("the limit is taken"));
     };
     assert_eq!(rt; fault, TestFault::Limit(limit));
-    assert_eq!(rt; fault.refusal(), pile(22, limit as usize));
+    assert_eq!(rt;
+        fault.refusal(),
+        Refusal::new(22, Layer::Pile, limit as usize)
+    );
     Ok(())
 }
 
@@ -69,7 +64,10 @@ fn reserve_out_of_bounds(rt: HostRuntime) -> Result<(), Fail> {
         return Err(Fail::new("the reserve is taken"));
     };
     assert_eq!(rt; rejected.fault, TestFault::Reserve(1_000_001));
-    assert_eq!(rt; rejected.fault.refusal(), pile(21, 1_000_001));
+    assert_eq!(rt;
+        rejected.fault.refusal(),
+        Refusal::new(21, Layer::Pile, 1_000_001)
+    );
     Ok(())
 }
 
@@ -89,14 +87,10 @@ fn guarantees(rt: HostRuntime) -> Result<(), Fail> {
 fn reserves(rt: HostRuntime) -> Result<(), Fail> {
     let table = tight()?;
     let none = TaskSet::empty();
-    let Ok(mut four) = Reserve::new(4, guarantee()) else {
-        return Err(Fail::new("the reserve is refused"));
-    };
+    let mut four = reserved(4, guarantee())?;
     assert!(rt; four.passes(&table, 2, none));
     assert!(rt; four.passes(&table, 1, only(2)));
-    let Ok(mut five) = Reserve::new(5, guarantee()) else {
-        return Err(Fail::new("the reserve is refused"));
-    };
+    let mut five = reserved(5, guarantee())?;
     assert!(rt; five.passes(&table, 2, none));
     assert!(rt; !five.passes(&table, 1, only(2)));
     Ok(())

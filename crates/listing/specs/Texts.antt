@@ -1,15 +1,9 @@
--- The bytes of a listing and of a refusal, and what writing a text into a space gives. Assumes nothing.
-use Rattle.std.specs.Prelude.{◌≡◌, ℕ, ◌<◌, ◌≤◌, List, [], ◌∷◌, ◌++◌, length, take, drop, Some, None, Ok, Err, codes, decimal, Option, Result}
+-- The bytes of a listing and of a refusal. Assumes nothing.
+use Rattle.std.specs.Prelude.{ℕ, List, [], ◌∷◌, ◌++◌, length, Some, None, codes, decimal, Option}
 use Rattle.std.specs.List.{flat_map}
 use Rattle.tasks.specs.declared.kind.Kind.{Kind}
 use Rattle.tasks.specs.declared.kind.Kind.TheVariants.{Strict, Tolerable}
-use Rattle.tasks.specs.declared.fault.SpaceFault.{SpaceFault}
 use Rattle.listing.specs.declared.line.Line.{Line}
-use Rattle.listing.specs.declared.lines.Lines.{Lines}
-
--- the lines that were pushed
-abbrev pub listed : Lines → List Line
-listed l = take l.len l.lines
 
 -- `S` or `T`
 abbrev pub letter : Kind → ℕ
@@ -41,9 +35,3 @@ listing_text ls = codes "order " ++ decimal (length ls) ++ newline ++ flat_map l
 -- the line of a refusal
 unfoldable pub refusal_text : ℕ → List ℕ
 refusal_text n = codes "refused " ++ decimal n ++ newline
-
--- the text, the space before and after, and the answer: the text stands at the front of the space and nothing beyond it is touched, or
--- the space is too short and stays as it was
-abbrev pub Written : List ℕ → List ℕ → List ℕ → Result ℕ SpaceFault → Type 0
-Written t a b (Ok n) = (n ≡ length t) × (length t ≤ length a) × (b ≡ t ++ drop (length t) a)
-Written t a b (Err f) = (f.needed ≡ length t) × (length a < length t) × (b ≡ a)

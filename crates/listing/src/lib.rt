@@ -3,4 +3,5 @@
 
 pub mod line;
 pub mod lines;
+mod pen;
 pub mod text;

@@ -1,7 +1,8 @@
 // At most thirty-two lines, held by value.
-ghost use Rattle.std.specs.Prelude.{◌≡◌, ◌<◌, ◌≤◌, [], ◌∷◌, ◌++◌, length, take, MatchBool};
+ghost use Rattle.std.specs.Prelude.{◌≡◌, ◌<◌, ◌≤◌, [], ◌∷◌, ◌++◌, length, MatchBool};
 
 use crate::line::Line;
+use std::marker::Model;
 use tasks::kind::Kind;
 
 // How many lines there is room for.
@@ -16,17 +17,34 @@ const BLANK: Line = Line {
     abnormal: None,
 };
 
+// A clause sees the lines that were pushed. An array and a count, and no `Vec`: the listing of a plan allocates nothing, and lines are
+// `Copy`.
 #[derive(Clone, Copy)]
 pub struct Lines {
     lines: [Line; ROOM],
     len: usize,
-    ghost long: { length lines ≡ 32 },
-    ghost few: { len ≤ 32 },
+}
+
+impl Model for Lines {
+    ghost use Rattle.std.specs.Prelude.{List};
+    ghost use Rattle.listing.specs.declared.line.Line.{Line};
+
+    ghost Value = { List Line };
+
+    ghost use Rattle.listing.specs.Rows.{pushed, Padded, padded, padded_pushed};
+
+    ghost view = { pushed };
+
+    ghost invariant = { Padded };
+
+    ghost inverse = { padded };
+
+    ghost inverse_ok = { padded_pushed };
 }
 
 impl Lines {
     pub fn new() -> Lines
-        ensures { take result.len result.lines ≡ [] }
+        ensures { result ≡ [] }
     {
         Lines {
             lines: [BLANK; ROOM],
@@ -34,9 +52,10 @@ impl Lines {
         }
     }
 
-    // Adds the line at the end; false, and nothing changed, where there is no room.
+    // Adds the line at the end; false, and nothing changed, where there is no room. A no has one reason, so it is no fault to tell.
     pub fn push(&mut self, line: Line) -> bool
-        ensures { MatchBool result ((length (take self.old.len self.old.lines) < 32) × (take self.new.len self.new.lines ≡ take self.old.len self.old.lines ++ line ∷ [])) ((32 ≤ length (take self.old.len self.old.lines)) × (self.new ≡ self.old)) }
+        ensures pushed { MatchBool result ((length self.old < 32) × (self.new ≡ self.old ++ line ∷ [])) ((32 ≤ length self.old) × (self.new ≡ self.old)) }
+        ensures few { length self.old ≤ 32 }
     {
         if self.len == ROOM {
             return false;
@@ -47,7 +66,8 @@ impl Lines {
     }
 
     pub fn as_slice(&self) -> &[Line]
-        ensures { result.now ≡ take self.now.len self.now.lines }
+        ensures value { result.now ≡ self.now }
+        ensures few { length result.now ≤ 32 }
     {
         &self.lines[0..self.len]
     }

@@ -1,17 +1,14 @@
 -- A set without a task is no larger, so the test keeps both laws. Assumes nothing.
-use Rattle.std.specs.Prelude.{◌≡◌, ℕ, zero, suc, ◌+◌, ◌*◌, ◌/◌, ◌%◌, ◌<◌, ◌≤◌, true, ◌⊎◌, length, nat_le}
+use Rattle.std.specs.Prelude.{◌≡◌, ℕ, zero, suc, ◌+◌, ◌*◌, ◌/◌, ◌%◌, ◌<◌, ◌≤◌, true, length, nat_le}
 use Rattle.std.proofs.Common.{ap, inl, inr, arith}
 use Rattle.std.proofs.lemmas.Bool.{leb-true, le-leb}
 use Rattle.tasks.specs.Sets.{excluding, members_from, members}
 use Rattle.tasks.proofs.Sets.{excluding_zero, excluding_suc}
-use Rattle.tasks.proofs.Members.{members_odd, members_even}
+use Rattle.tasks.proofs.Members.{parity, members_odd, members_even}
 use Rattle.schedulability.specs.Laws.{Raise, Removal}
 use Rattle.schedulability.specs.Proper.{guarded}
 use Rattle.schedulability.specs.Guards.{guarded_raise, guarded_removal}
 use Rattle.own_test.specs.Few.{few}
-
-parity : (h : ℕ) → (h % 2 ≡ 1) ⊎ (h % 2 ≡ 0)
-parity h = grind arith
 
 -- the lowest bit counts with the members of the half
 halved : (k n h : ℕ) → length (members_from k (suc n) h) ≡ length (members_from (k + 1) n (h / 2)) + h % 2

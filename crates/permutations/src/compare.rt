@@ -1,6 +1,6 @@
 // Plan and judge on one table, against every order of its tasks.
-use crate::naive::{Candidate, ask_each, candidates, order_at, orders_of};
-use anyhow::anyhow;
+use crate::naive::{Candidate, No, ask_each, candidates, order_at, orders_of};
+use anyhow::ensure;
 use own_test::few_above::FewAbove;
 use priority::fault::PlanFault;
 use priority::judge::judge;
@@ -10,68 +10,48 @@ use std::alloc::Global;
 use tasks::order::Order;
 use tasks::record::LAST;
 use tasks::refusal::{Fault, Layer, Refusal};
+use tasks::set::TaskSet;
 use tasks::table::Table;
 
-// What the orders of a table come to.
-#[derive(Clone, Copy)]
-struct Orders {
-    // the number of the first that passes
-    first: Option<usize>,
-    // the tasks above the longest run of places, from the lowest up, that pass in any order, and how many they are
-    left: u32,
-    fewest: usize,
-}
-
-// Fails at the first order that is not judged as its places are.
+// The number of the first order that passes. Where none does, the tasks above the longest run of places, from the lowest up, that pass in
+// any order. Fails at the first order that is not judged as its places are.
 fn all_orders<T: Test>(
     heap: Global,
     table: &Table,
     tried: &[Candidate],
     test: &mut T,
-) -> anyhow::Result<Orders> {
-    let mut orders = Orders {
-        first: None,
-        left: 0,
-        fewest: usize::MAX,
-    };
-    for index in 0..orders_of(tried.len()) {
+) -> anyhow::Result<Result<usize, TaskSet>> {
+    let mut first = None;
+    let mut highest: Option<No> = None;
+    for index in 0..orders_of(tried.len()).get() {
         let order = order_at(heap, tried, index)?;
-        let seen = ask_each(table, &order, test);
-        if judge(table, &order, test).ok() != Some(seen.first_no) {
-            return Err(anyhow!("an order is judged otherwise"));
-        }
-        if seen.last_no < orders.fewest {
-            orders.fewest = seen.last_no;
-            orders.left = seen.left;
-        }
-        if seen.last_no == 0 && orders.first.is_none() {
-            orders.first = Some(index);
+        let noes = ask_each(table, &order, test);
+        ensure!(
+            judge(table, &order, test) == Ok(noes.map(|noes| noes.first.place)),
+            "an order is judged otherwise"
+        );
+        match noes {
+            None => first = first.or(Some(index)),
+            Some(noes) => {
+                if highest.is_none_or(|no| noes.last.place < no.place) {
+                    highest = Some(noes.last);
+                }
+            }
         }
     }
-    Ok(orders)
+    Ok(first.ok_or(highest.map_or(TaskSet::empty(), |no| no.tasks)))
 }
 
-pub(crate) fn is_planned(planned: &Result<Order, PlanFault>, order: &[u8]) -> bool {
-    match planned {
-        Ok(found) => found.as_slice() == order,
-        Err(_) => false,
-    }
-}
-
-pub(crate) fn is_refused(planned: &Result<Order, PlanFault>, left: u32) -> bool {
-    match planned {
-        Ok(_) => false,
-        Err(fault) => fault.refusal() == without_task(7) && fault.left.bits == left,
-    }
-}
-
-// A refusal of the roster's questions that is told with no task.
-fn without_task(number: u8) -> Refusal {
-    Refusal {
-        number,
-        layer: Layer::Roster,
-        place: 0,
-        innermost: number,
+// Whether plan answers with this order, or with its refusal and these tasks left.
+pub(crate) fn is_answer(
+    planned: &Result<Order, PlanFault>,
+    wanted: Result<&[u8], TaskSet>,
+) -> bool {
+    match (planned, wanted) {
+        (Ok(found), Ok(order)) => found.as_slice() == order,
+        (Err(fault), Err(left)) => fault.refusal() == Refusal::new(7, Layer::Roster, 0)
+            && fault.left == left,
+        _ => false,
     }
 }
 
@@ -79,51 +59,39 @@ fn without_task(number: u8) -> Refusal {
 // passes.
 pub(crate) fn compare<T: Test>(heap: Global, table: &Table, test: &mut T) -> anyhow::Result<bool> {
     let tried = candidates(heap, table)?;
-    let orders = all_orders(heap, table, &tried, test)?;
-    let order = order_at(heap, &tried, orders.first.unwrap_or(0))?;
+    let first = all_orders(heap, table, &tried, test)?;
+    let order = order_at(heap, &tried, first.unwrap_or(0))?;
     let planned = plan(table, test);
-    let agrees = if orders.first.is_some() {
-        is_planned(&planned, &order)
-    } else {
-        is_refused(&planned, orders.left)
-    };
-    if !agrees {
-        return Err(anyhow!("the plan is another"));
-    }
-    if !refuses_others(table, &order, test) || !refuses_unasked(table, &order) {
-        return Err(anyhow!("a list that is no order is judged"));
-    }
+    ensure!(
+        is_answer(&planned, first.map(|_| order.as_slice())),
+        "the plan is another"
+    );
+    ensure!(
+        refuses_others(table, &order, test) && refuses_unasked(table, &order),
+        "a list that is no order is judged"
+    );
     Ok(planned.is_ok())
 }
 
 fn is_no_order<T: Test>(table: &Table, numbers: &[u8], test: &mut T) -> bool {
-    match judge(table, numbers, test) {
-        Ok(_) => false,
-        Err(fault) => fault.refusal() == without_task(18),
-    }
+    judge(table, numbers, test).is_err_and(|fault| fault.refusal()
+        == Refusal::new(18, Layer::Roster, 0))
 }
 
 // Whether judge refuses the numbers with each of some more after them.
 fn refuses_more<T: Test>(table: &Table, numbers: &[u8], more: &[u8], test: &mut T) -> bool {
-    for number in more {
-        let Some(mut longer) = Order::from_slice(numbers) else {
-            return false;
-        };
-        if !longer.push(*number) || !is_no_order(table, longer.as_slice(), test) {
-            return false;
-        }
-    }
-    true
+    more.iter().all(|number| {
+        Order::from_slice(numbers).is_some_and(|mut longer| {
+            longer.push(*number) && is_no_order(table, longer.as_slice(), test)
+        })
+    })
 }
 
 // The lowest number of an empty place.
 fn unknown(table: &Table) -> u8 {
-    for number in 0..=LAST {
-        if table.row(number).is_none() {
-            return number;
-        }
-    }
-    LAST + 1
+    (0..=LAST)
+        .find(|number| table.row(*number).is_none())
+        .unwrap_or(LAST + 1)
 }
 
 // Whether judge refuses lists with a task missing, a task twice, a number that has no task, and the empty list, made of an order.

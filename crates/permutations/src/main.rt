@@ -10,9 +10,11 @@ mod tables;
 use crate::cases::worked_cases;
 use crate::compare::compare;
 use crate::naive::orders_of;
-use crate::tables::Draws;
+use crate::tables::any_table;
+use demand::mode::Mode;
 use own_test::few_above::FewAbove;
 use own_test::layered::layered;
+use samples::draws::Draws;
 use schedulability::pair::Pair;
 use schedulability::reserve::Reserve;
 use schedulability::strict_only::StrictOnly;
@@ -29,12 +31,12 @@ const TABLES: u32 = 300 * SIZES;
 
 // The tables are the same for every test, and go by their number from 0.
 fn tell<T: Test + Drop>(rt: &HostRuntime, name: &str, mut test: T) -> anyhow::Result<()> {
-    let mut draws = Draws::new();
+    let mut draws = Draws::new(2_024);
     let mut planned = 0u32;
     let mut judged = 0usize;
     for number in 0..TABLES {
         let size = (number % SIZES) as u8;
-        let table = draws.table(size)?;
+        let table = any_table(&mut draws, size)?;
         match compare(rt.alloc(), &table, &mut test) {
             Ok(has_plan) => planned = planned.saturating_add(has_plan as u32),
             Err(difference) => {
@@ -42,7 +44,7 @@ fn tell<T: Test + Drop>(rt: &HostRuntime, name: &str, mut test: T) -> anyhow::Re
                 return Err(difference);
             }
         }
-        judged = judged.saturating_add(orders_of(size as usize));
+        judged = judged.saturating_add(orders_of(size as usize).get());
     }
     let refused = TABLES.saturating_sub(planned);
     println!(rt;
@@ -56,9 +58,9 @@ fn run(rt: &HostRuntime) -> anyhow::Result<()> {
     println!(rt; "worked cases: as worked out")?;
     tell(rt, "guarantee", guarantee())?;
     tell(rt, "sections", Sections)?;
-    tell(rt, "normal", InTime::normal())?;
+    tell(rt, "normal", InTime::new(Mode::Normal))?;
     let both = Pair {
-        first: InTime::normal(),
+        first: InTime::new(Mode::Normal),
         second: Sections,
     };
     tell(
@@ -85,7 +87,11 @@ fn run(rt: &HostRuntime) -> anyhow::Result<()> {
         StrictOnly { below: Sections },
     )?;
     tell(rt, "few above", FewAbove::new(2))?;
-    tell(rt, "layered", layered(FewAbove::new(2), InTime::normal()))
+    tell(
+        rt,
+        "layered",
+        layered(FewAbove::new(2), InTime::new(Mode::Normal)),
+    )
 }
 
 fn main(rt: HostRuntime) -> anyhow::Result<()> {

@@ -1,8 +1,7 @@
 // Every order of a table's tasks, by its number, and what a test says at each of its places. Nothing of the library's planning is used.
-ghost use Rattle.std.specs.Prelude.{◌≤◌};
-
 use schedulability::test::Test;
 use std::alloc::{AllocError, Global};
+use std::num::NonZeroUsize;
 use tasks::record::LAST;
 use tasks::set::TaskSet;
 use tasks::table::Table;
@@ -15,27 +14,22 @@ pub(crate) struct Candidate {
 
 // The tasks as they are tried at each place: the longest deadline first, of equal deadlines the higher number.
 pub(crate) fn candidates(heap: Global, table: &Table) -> Result<Vec<Candidate>, AllocError> {
-    let mut tried = Vec::new(heap);
-    for number in 0..=LAST {
-        if let Some(row) = table.row(number) {
-            let deadline = row.deadline;
-            tried.push(Candidate { deadline, number })?;
-        }
-    }
+    let mut tried = (0..=LAST)
+        .filter_map(|number| {
+            let deadline = table.row(number)?.deadline;
+            Some(Candidate { deadline, number })
+        })
+        .collect::<Vec<Candidate>>(heap)?;
     tried.sort()?;
     tried.reverse();
     Ok(tried)
 }
 
 // How many orders so many tasks have.
-pub(crate) fn orders_of(tasks: usize) -> usize
-    ensures { 1 ≤ result }
-{
-    let mut orders: usize = 1;
-    for n in 0..tasks {
-        orders = orders.saturating_mul(n + 1);
-    }
-    orders
+pub(crate) fn orders_of(tasks: usize) -> NonZeroUsize {
+    (1..=tasks)
+        .filter_map(NonZeroUsize::new)
+        .fold(NonZeroUsize::MIN, NonZeroUsize::saturating_mul)
 }
 
 // The order of a number, in the sequence of what stands at the lowest place, then at the one above it, and so on: at each place each
@@ -55,36 +49,35 @@ pub(crate) fn order_at(
     Ok(order)
 }
 
-// What a test says of an order.
+// A place, counted from 1, whose task does not pass, and the tasks up to it.
 #[derive(Clone, Copy)]
-pub(crate) struct Verdict {
-    // the first place, counted from 1, whose task does not pass
-    pub(crate) first_no: Option<usize>,
-    // the last such place, 0 where there is none
-    pub(crate) last_no: usize,
-    // the tasks up to that place, above the run of places, from the lowest up, that pass
-    pub(crate) left: u32,
+pub(crate) struct No {
+    pub(crate) place: usize,
+    pub(crate) tasks: TaskSet,
 }
 
-// Asks at every place, whatever was said before.
-pub(crate) fn ask_each<T: Test>(table: &Table, order: &[u8], test: &mut T) -> Verdict {
-    let mut verdict = Verdict {
-        first_no: None,
-        last_no: 0,
-        left: 0,
-    };
-    let mut above = 0;
+// What a test says of an order that does not pass. The places below the last no are the run, from the lowest up, that pass.
+#[derive(Clone, Copy)]
+pub(crate) struct Noes {
+    pub(crate) first: No,
+    pub(crate) last: No,
+}
+
+// Asks at every place, whatever was said before; none where the order passes.
+pub(crate) fn ask_each<T: Test>(table: &Table, order: &[u8], test: &mut T) -> Option<Noes> {
+    let mut noes: Option<Noes> = None;
+    let mut above = TaskSet::empty();
     for (i, task) in order.iter().enumerate() {
-        let passes = test.passes(table, *task, TaskSet { bits: above });
-        above |= 1u32.wrapping_shl(u32::from(*task));
-        if passes {
-            continue;
+        let passes = test.passes(table, *task, above);
+        above = above.with(*task);
+        if !passes {
+            let last = No {
+                place: i + 1,
+                tasks: above,
+            };
+            let first = noes.map_or(last, |noes| noes.first);
+            noes = Some(Noes { first, last });
         }
-        if verdict.first_no.is_none() {
-            verdict.first_no = Some(i + 1);
-        }
-        verdict.last_no = i + 1;
-        verdict.left = above;
     }
-    verdict
+    noes
 }

@@ -1,1 +1,3 @@
-pub mod Walks
+pub mod Meanings
+pub mod Lining
+pub mod Single

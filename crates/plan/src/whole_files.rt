@@ -28,7 +28,7 @@ const FILM_SLITTER: &[u8] = b"\
 fn answers(rt: &impl Abort, file: &[u8], text: &[u8]) -> Result<(), Fail> {
     let mut space = [0; 1024];
     let answer = write_answer(file, &mut space)?;
-    let len = answer.len;
+    let len = answer.len();
     assert!(rt; &space[0..len] == text);
     Ok(())
 }

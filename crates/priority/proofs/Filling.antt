@@ -4,6 +4,7 @@ use Rattle.std.proofs.lemmas.List.{append_assoc, reverse-append, reverse-reverse
 use Rattle.std.proofs.lemmas.Bool.Decides.{nat_tests}
 use Rattle.tasks.specs.Orders.{occurs}
 use Rattle.tasks.specs.Sets.{member, excluding}
+use Rattle.tasks.proofs.Listing.{taken}
 use Rattle.tasks.proofs.Sets.{member_none, member_excluding, bits_from_members}
 use Rattle.priority.specs.Passing.{named, AtEachPlace}
 use Rattle.priority.specs.Fillings.{Filled}
@@ -15,10 +16,6 @@ use Rattle.priority.proofs.Walks.{left_member}
 pub filled_by : (P Q : ℕ → ℕ → Type 0) → ((h k : ℕ) → P h k → Q h k) → (a : ℕ) (ks : List ℕ) (b : ℕ) → Filled P a ks b → Filled Q a ks b
 filled_by P Q w a [] b f = f
 filled_by P Q w a (k ∷ ks) b (m, p, f) = (m, w (excluding a k) k p, filled_by P Q w (excluding a k) ks b f)
-
-once : (x n : ℕ) (b : Bool) → (x ≡ n → b ≡ true) → cond (eqb x n) 1 0 + cond (b && not (eqb n x)) 1 0 ≡ cond b 1 0
-once x n true e = grind (arith, nat_tests)
-once x n false e = grind (arith, nat_tests)
 
 -- the reverse of a list that goes on
 reverse_cons : (k : ℕ) (ks : List ℕ) → reverse (k ∷ ks) ≡ reverse ks ++ k ∷ []
@@ -40,7 +37,7 @@ module _ (P : ℕ → ℕ → Type 0) where
   filled_once a (k ∷ ks) b (u, v, f) n =
       let r = filled_once (excluding a k) ks b f n in
       let s : cond {A = ℕ} (member (excluding a k) n) 1 0 ≡ cond (member a n && not (eqb n k)) 1 0 = ap (λ x. cond x 1 0) (member_excluding a k n) in
-      omega (arith, once k n (member a n) (λ e. ap (member a) (sym e) ∙ u))
+      omega (arith, taken k n (member a n) (λ e. ap (member a) (sym e) ∙ u))
 
   filled_all : (a : ℕ) (ks : List ℕ) → Filled P a ks 0 → (n : ℕ) → occurs n ks ≡ cond (member a n) 1 0
   filled_all a ks f n = omega (arith, filled_once a ks 0 f n, ap (λ x. cond {A = ℕ} x 1 0) (member_none n))
@@ -73,7 +70,7 @@ module _ (P : ℕ → ℕ → Type 0) where
     rest : (n : ℕ) → occurs n us ≡ cond (member (excluding a k) n) 1 0
     rest n =
         let s : cond {A = ℕ} (member (excluding a k) n) 1 0 ≡ cond (member a n && not (eqb n k)) 1 0 = ap (λ x. cond x 1 0) (member_excluding a k n) in
-        omega (arith, e n, once k n (member a n) (λ q. ap (member a) (sym q) ∙ here))
+        omega (arith, e n, taken k n (member a n) (λ q. ap (member a) (sym q) ∙ here))
 
     last : named (reverse us) ≡ excluding a k
     last = named_is (reverse us) (excluding a k) (λ n. occurs_reverse n us ∙ rest n)

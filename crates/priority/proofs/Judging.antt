@@ -1,13 +1,12 @@
 -- An order looked at place by place. Assumes nothing.
-use Rattle.std.proofs.Common.{◌≡◌, ℕ, suc, ◌+◌, ◌<◌, ◌≤◌, Bool, true, false, cond, leb, ◌⊎◌, List, [], ◌∷◌, ◌++◌, length, get_or, take, drop, is_some, None, sym, refl, ap, ◌∙◌, subst, inl, inr, arith}
-use borrow.Author.Tests.{clash}
-use Rattle.std.proofs.lemmas.List.{take_more, drop_more, take-append-drop, length-append, get_or_past}
-use Rattle.std.proofs.lemmas.Bool.{cases_lt, cond-true, le-leb}
-use Rattle.tasks.specs.Orders.{occurs, in_use, Lists}
+use Rattle.std.proofs.Common.{◌≡◌, ℕ, ◌+◌, ◌<◌, ◌≤◌, cond, leb, ◌⊎◌, List, [], ◌∷◌, ◌++◌, length, get_or, take, drop, sym, refl, ap, ◌∙◌, subst, inl, inr, arith}
+use Rattle.std.proofs.lemmas.List.{take_more, drop_more, take-append-drop, length-append}
+use Rattle.std.proofs.lemmas.Bool.{cond-true, le-leb}
+use Rattle.tasks.specs.Orders.{Lists}
 use Rattle.tasks.specs.Sets.{including}
 use Rattle.tasks.specs.declared.table.Table.{Table}
-use Rattle.tasks.proofs.Listing.{occurs_append}
-use Rattle.tasks.proofs.Members.{occurs_same}
+use Rattle.tasks.proofs.Listing.{listed_in_use}
+use Rattle.tasks.proofs.Places.{on_table}
 use Rattle.priority.specs.Passing.{named, AtEachPlace}
 use Rattle.priority.proofs.Named.{named_more}
 
@@ -38,25 +37,14 @@ module _ (P : ℕ → ℕ → Type 0) where
     | inr (vs, a) ↦ p us vs j a
   ]
 
--- ---- the numbers of an order are numbers of tasks
-
-used : (b : Bool) (m : ℕ) → suc m ≡ cond b 1 0 → b ≡ true
-used true m e = refl
-used false m e = absurd (omega arith)
-
-named_in_use : (o : List ℕ) (t : Table) (i : ℕ) → i < length o → Lists o t.places → in_use t.places (get_or o i 0) ≡ true
-named_in_use o t i l s =
-    let x = get_or o i 0 in
-    let a = ap (occurs x) (sym (take-append-drop i o)) ∙ occurs_append x (take i o) (drop i o) in
-    let b = ap (occurs x) (drop_more o i 0 l) ∙ occurs_same x (drop (i + 1) o) in
-    used (in_use t.places x) (occurs x (take i o) + occurs x (drop (i + 1) o)) (omega (arith, s x))
+-- ---- the places of an order, one after the other
 
 -- the task of the next place joins the set of those above
 pub above_more : (o : List ℕ) (t : Table) (i h r : ℕ) → i < length o → Lists o t.places → h ≡ named (take i o)
     → r ≡ cond (leb (get_or o i 0) 31) (including h (get_or o i 0)) h → r ≡ named (take (i + 1) o)
 above_more o t i h r l s e q =
     let x = get_or o i 0 in
-    let few : x ≤ 31 = elim (cases_lt x 32) [ inl m ↦ omega arith | inr m ↦ absurd (clash (sym (ap is_some (get_or_past t.places x None (omega (arith, t.full)))) ∙ named_in_use o t i l s)) ] in
+    let few : x ≤ 31 = omega (arith, on_table t x (listed_in_use o t.places i l s)) in
     q ∙ cond-true (leb x 31) (including h x) h (le-leb x 31 few) ∙ ap (λ y. including y x) e ∙ sym (named_more (take i o) x) ∙ ap named (sym (take_more o i 0 l))
 
 -- what stands before a place, there, and after it

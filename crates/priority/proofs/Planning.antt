@@ -39,7 +39,7 @@ module _ (told says : Meaning) (alike : Alike told says) (t : Table) where
   pub first_alike : (h k : ℕ) → FirstYes told t h k → FirstYes says t h k
   first_alike h k (y, n) = (sym (alike t k h) ∙ y, λ j m b. sym (alike t j _) ∙ n j m b)
 
-  pub stuck_alike : (l : ℕ) → Stuck told t l → Stuck says t l
+  stuck_alike : (l : ℕ) → Stuck told t l → Stuck says t l
   stuck_alike l s k m = sym (alike t k _) ∙ s k m
 
 -- ---- the plan is the only one
@@ -93,9 +93,9 @@ module _ (says : Meaning) (t : Table) where
     pub passing_left : (o : List ℕ) → Lists o t.places → Passes says t o → LeftOver says t 0
     passing_left o l p = (a, reverse o, all, order_filled (Yes says t) o l p, λ k m. absurd (nobody k m))
 
-    -- what filling by the first that gets a yes leaves
-    pub planned_left : (us : List ℕ) (l : ℕ) → Filled (FirstYes says t) a us l → Stuck says t l → LeftOver says t l
-    planned_left us l f s = (a, us, all, filled_by (FirstYes says t) (Yes says t) (λ h k y. y.0) a us l f, s)
+    -- what filling by the first that gets a yes leaves, when a test that answers alike gives nobody a yes
+    pub planned_left : (told : Meaning) → Alike told says → (us : List ℕ) (l : ℕ) → Filled (FirstYes says t) a us l → Stuck told t l → LeftOver says t l
+    planned_left told alike us l f s = (a, us, all, filled_by (FirstYes says t) (Yes says t) (λ h k y. y.0) a us l f, stuck_alike told says alike t l s)
 
   -- ---- what is left is the same however places are filled
 

@@ -3,9 +3,11 @@ ghost use Rattle.priority.specs.Refusals.{plan_tells, order_tells};
 
 use tasks::refusal::{Fault, Layer, Refusal};
 use tasks::set::TaskSet;
+use thiserror::Error;
 
-// 7: no order of the tasks passes the test.
-#[derive(Clone, Copy, PartialEq, Eq, Debug)]
+// 7
+#[derive(Clone, Copy, PartialEq, Eq, Debug, Error)]
+#[error("no order of the tasks passes")]
 pub struct PlanFault {
     // the tasks left when places are filled from the lowest up until none of those left passes below all the others left
     pub left: TaskSet,
@@ -15,28 +17,19 @@ impl Fault for PlanFault {
     ghost tells = { plan_tells };
 
     fn refusal(&self) -> Refusal {
-        Refusal {
-            number: 7,
-            layer: Layer::Roster,
-            place: 0,
-            innermost: 7,
-        }
+        Refusal::new(7, Layer::Roster, 0)
     }
 }
 
-// 18: the list of numbers does not name each task of the table once.
-#[derive(Clone, Copy, PartialEq, Eq, Debug)]
+// 18
+#[derive(Clone, Copy, PartialEq, Eq, Debug, Error)]
+#[error("the order does not name each task of the table once")]
 pub struct OrderFault;
 
 impl Fault for OrderFault {
     ghost tells = { order_tells };
 
     fn refusal(&self) -> Refusal {
-        Refusal {
-            number: 18,
-            layer: Layer::Roster,
-            place: 0,
-            innermost: 18,
-        }
+        Refusal::new(18, Layer::Roster, 0)
     }
 }

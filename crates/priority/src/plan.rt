@@ -5,7 +5,6 @@ ghost use Rattle.priority.specs.Fillings.{LeftOver, Stuck};
 ghost use Rattle.priority.specs.Passing.{NoOrder};
 ghost use Rattle.priority.specs.Plans.{deadline, TriedBefore, FirstYes, IsPlan};
 ghost use Rattle.schedulability.specs.Laws.{Alike};
-ghost use Rattle.tasks.specs.Listed.{listed};
 ghost use Rattle.tasks.specs.Sets.{member, excluding};
 
 use crate::fault::PlanFault;
@@ -18,9 +17,9 @@ use tasks::table::Table;
 // of the table's tasks passes, whatever had been put in the places below.
 pub fn plan<T: Test>(table: &Table, test: &mut T) -> Result<Order, PlanFault>
     ensures outcome { MatchResult result
-        (λ o. IsPlan (T.says test.old) table.now (listed o))
+        (λ o. IsPlan (T.says test.old) table.now o)
         (λ f. NoOrder (T.says test.old) table.now × ((n : ℕ) × (member f.left.bits n ≡ true))) }
-    ensures only { (p : List ℕ) → IsPlan (T.says test.old) table.now p → MatchResult result (λ o. listed o ≡ p) (λ _. ⊥) }
+    ensures only { (p : List ℕ) → IsPlan (T.says test.old) table.now p → MatchResult result (λ o. o ≡ p) (λ _. ⊥) }
     ensures left { LeftOver (T.says test.old) table.now (left_by result) }
     ensures always_left { (l : ℕ) → LeftOver (T.says test.old) table.now l → l ≡ left_by result }
     ensures same { Alike (T.says test.new) (T.says test.old) }
@@ -60,25 +59,15 @@ fn last_due(table: &Table, tasks: TaskSet) -> Option<u8>
         (tasks.bits ≡ 0)
         (λ k. (member tasks.bits k ≡ true) × ((j : ℕ) → member tasks.bits j ≡ true → TriedBefore table.now j k → ⊥)) }
 {
-    let mut last = None;
-    let mut longest = 0;
-    let mut rest = tasks;
-    while let Some(number) = rest.take_lowest() {
-        let due = deadline_of(table, number);
-        if due >= longest {
-            longest = due;
-            last = Some(number);
-        }
-    }
-    last
+    // of equal deadlines the one met last, and so the highest number
+    tasks
+        .into_iter()
+        .max_by_key(|number| deadline_of(table, *number))
 }
 
 // The deadline of a task, 0 where there is none.
 fn deadline_of(table: &Table, number: u8) -> u32
     ensures { result ≡ deadline table.now number }
 {
-    match table.row(number) {
-        Some(row) => row.deadline,
-        None => 0,
-    }
+    table.row(number).map_or(0, |row| row.deadline)
 }

@@ -3,21 +3,21 @@ use Rattle.std.specs.Prelude.{◌≡◌, ℕ, ◌-◌, List, [], ◌∷◌, ◌+
 use Rattle.queue.specs.declared.queue.Queue.{Queue}
 
 -- the entries of a queue, as they lie in its slots
-abbrev pub entries : {X : Type 0} → Queue X → List X
+abbrev pub entries : {X : Type 0} {rank : _} → Queue X rank → List X
 entries q = take q.count q.slots.now
 
 -- how many entries a queue has slots for
-abbrev pub capacity : {X : Type 0} → Queue X → ℕ
+abbrev pub capacity : {X : Type 0} {rank : _} → Queue X rank → ℕ
 capacity q = length q.slots.now
 
 -- both queues stand on one slice, have as many slots and the same blank
-pub record SameSpace {X : Type 0} (q p : Queue X) : Type 0 where
+pub record SameSpace {X : Type 0} {rank : _} (q p : Queue X rank) : Type 0 where
   pub lent : p.slots.ghost_name ≡ q.slots.ghost_name
   pub room : capacity p ≡ capacity q
   pub blank : p.blank ≡ q.blank
 
 -- the slots hold the entries, and then blanks
-abbrev pub LaidOut : {X : Type 0} → Queue X → Type 0
+abbrev pub LaidOut : {X : Type 0} {rank : _} → Queue X rank → Type 0
 LaidOut q = q.slots.now ≡ entries q ++ replicate (capacity q - length (entries q)) q.blank
 
 -- what stands at the front of a list, if it has any entry

@@ -1,7 +1,7 @@
 // What can be seen of a queue.
 ghost use Rattle.std.specs.Prelude.{◌≡◌, length, IfSome, ◌==◌};
 ghost use Rattle.queue.specs.Queues.{entries, front};
-ghost use Rattle.queue.specs.Ranks.{First, Arranged};
+ghost use Rattle.queue.specs.Ranks.{First};
 
 use crate::queue::Queue;
 use crate::rank::Rank;
@@ -22,11 +22,8 @@ impl<'a, E: Rank + Copy> Queue<'a, E> {
     // The entry that comes out next.
     pub fn first(&self) -> Option<E>
         ensures front { result ≡ front (entries self.now) }
-        ensures first { Arranged E.Rank.precedence (entries self.now) → IfSome result (λ x. First E.Rank.precedence x (entries self.now)) }
+        ensures first { IfSome result (λ x. First E.Rank.precedence x (entries self.now)) }
     {
-        if self.count == 0 {
-            return None;
-        }
-        Some(self.slots[0])
+        self.slots[..self.count].first().copied()
     }
 }

@@ -1,6 +1,7 @@
 // What an entry of a queue has: a total rank.
 ghost use Rattle.std.specs.Prelude.{◌≡◌, Bool, true, false};
 
+// Not std's `Ord`: that wants two entries of one rank to be equal, and these may differ.
 pub trait Rank {
     // the first ranks no later than the second, so it may come out before it
     ghost precedence: { Self → Self → Bool };

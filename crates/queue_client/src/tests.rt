@@ -2,26 +2,21 @@ use crate::entry::{Coming, Waiting};
 use crate::sort::sort_by_place;
 use queue::queue::Queue;
 
-const NONE: Coming = Coming { time: 0, index: 0 };
-
-fn time_of(taken: Option<Coming>) -> u64 {
-    match taken {
-        Some(coming) => coming.time,
-        None => 0,
-    }
+fn time_of(taken: Option<Coming>) -> Option<u64> {
+    taken.map(|coming| coming.time)
 }
 
 #[test]
 fn comes_out_by_time(rt: HostRuntime) {
     let mut slots = [Coming { time: 9, index: 9 }; 5];
-    let mut queue = Queue::new(&mut slots, NONE);
+    let mut queue = Queue::new(&mut slots, Coming::default());
     for time in [30, 10, 50, 20, 40] {
         assert!(rt; queue.insert(Coming { time, index: 1 }));
     }
     assert_eq!(rt; queue.len(), 5);
     for time in [10, 20, 30, 40, 50] {
-        assert_eq!(rt; time_of(queue.first()), time);
-        assert_eq!(rt; time_of(queue.take_first()), time);
+        assert_eq!(rt; time_of(queue.first()), Some(time));
+        assert_eq!(rt; time_of(queue.take_first()), Some(time));
     }
     assert!(rt; queue.is_empty());
     assert!(rt; queue.take_first().is_none());
@@ -29,14 +24,14 @@ fn comes_out_by_time(rt: HostRuntime) {
 
 #[test]
 fn full_queue_refuses(rt: HostRuntime) {
-    let mut slots = [NONE; 2];
-    let mut queue = Queue::new(&mut slots, NONE);
+    let mut slots = [Coming::default(); 2];
+    let mut queue = Queue::new(&mut slots, Coming::default());
     assert!(rt; queue.insert(Coming { time: 7, index: 1 }));
     assert!(rt; queue.insert(Coming { time: 5, index: 2 }));
     assert!(rt; !queue.insert(Coming { time: 3, index: 3 }));
     assert_eq!(rt; queue.len(), 2);
-    assert_eq!(rt; time_of(queue.take_first()), 5);
-    assert_eq!(rt; time_of(queue.take_first()), 7);
+    assert_eq!(rt; time_of(queue.take_first()), Some(5));
+    assert_eq!(rt; time_of(queue.take_first()), Some(7));
 }
 
 #[test]

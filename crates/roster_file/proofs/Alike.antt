@@ -5,7 +5,8 @@ use Rattle.std.specs.List.{flat_map, AllByRecursion}
 use Rattle.tasks.specs.declared.kind.Kind.{Kind}
 use Rattle.tasks.specs.declared.kind.Kind.TheVariants.{Tolerable, Strict}
 use Rattle.tasks.specs.declared.row.Row.{Row}
-use Rattle.roster_file.specs.Entries.{time_bytes, kind_byte, task_bytes, TaskFits}
+use Rattle.tasks.specs.Kinds.{kind_byte}
+use Rattle.roster_file.specs.Entries.{time_bytes, task_bytes, TaskFits}
 use Rattle.roster_file.specs.declared.task_section.TaskEntry.{TaskEntry}
 
 kind_same : (k l : Kind) → kind_byte k ≡ kind_byte l → k ≡ l

@@ -7,10 +7,11 @@ use Rattle.std.specs.List.{flat_map, AllByRecursion, slice_get}
 use Rattle.std.specs.Option.{option_map, option_to_list}
 use Rattle.tasks.specs.declared.fault.SpaceFault.{SpaceFault}
 use Rattle.tasks.specs.Orders.{Lists}
+use Rattle.tasks.specs.declared.order.Order.{Order}
 use Rattle.tasks.specs.declared.row.Row.{Row}
 use Rattle.tasks.specs.declared.table.Table.{Table}
 use Rattle.tasks.proofs.Few.{few}
-use Rattle.roster_file.specs.Entries.{number_bytes, task_bytes, task_width, task_of, tasks_in, under, Holds}
+use Rattle.roster_file.specs.Entries.{number_bytes, task_bytes, task_width, task_of, tasks_in, under, Holds, numbers_in}
 use Rattle.roster_file.specs.Layout.{edition, Layout, Canonical, Rising, HoldsJust}
 use Rattle.roster_file.specs.Sections.{below, entries, section_bytes}
 use Rattle.tasks.specs.Spaces.{Written}
@@ -152,6 +153,11 @@ length_assembled t order =
     let tasks = entries (tasks_in t.places) in
     let numbers = entries (slice_get order) in
     omega (arith, length-append (flat_map task_bytes tasks) (section_bytes number_bytes numbers), length_joined task_bytes task_width (λ e. refl) tasks, length_joined number_bytes 1 (λ n. refl) numbers)
+
+-- the same of sections that hold the table and the order
+pub length_sections : {t u : Table} {o : Option Order} {order : Order} → t ≡ u → o ≡ Some order
+    → length (assembled u order) ≡ 1 + (1 + task_width * length (entries (tasks_in t.places))) + (1 + 1 * length (entries (numbers_in o)))
+length_sections e f = rw (e, f) (length_assembled _ _)
 
 -- whatever the canonical file is, it is the one that was written
 pub written_one : (t : Table) (order before after : List ℕ) (r : Result ℕ SpaceFault) → Lists order t.places → Written (assembled t order) before after r → (file : List ℕ) → Canonical file t order → Written file before after r

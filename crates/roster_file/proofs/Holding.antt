@@ -1,10 +1,8 @@
 -- The table that entries fill, one entry more. Assumes nothing.
-use Rattle.std.proofs.Common.{◌≡◌, ℕ, zero, suc, ◌+◌, ◌<◌, ◌≤◌, min, Bool, true, false, cond, ◌&&◌, eqb, ltb, leb, List, [], ◌∷◌, ◌++◌, length, get_or, take, set, replicate, is_some, Some, None, Ok, Err, Option, Result, sym, refl, ap, ◌∙◌, subst, inl, inr, arith, length-take, MatchResult}
-use Rattle.std.proofs.lemmas.List.{append-nil, get_or-set_same, get_or-set_other, length_push, take_all, take-append-le}
-use Rattle.std.proofs.lemmas.Bool.{cases_eq, cases_lt, eq-eqb, ne_eqb, lt-ltb, le-ltb, lt-leb, le-leb, cond-true, cond-false, and_from, and_right}
+use Rattle.std.proofs.Common.{◌≡◌, ℕ, zero, suc, ◌<◌, Bool, true, false, cond, eqb, List, [], ◌∷◌, ◌++◌, length, get_or, set, replicate, is_some, is_ok, Some, None, Ok, Err, Option, Result, sym, refl, ap, ◌∙◌, subst, inl, inr, arith, MatchResult}
+use Rattle.std.proofs.lemmas.List.{append-nil, get_or-set_same, get_or-set_other}
+use Rattle.std.proofs.lemmas.Bool.{cases_eq, eq-eqb, ne_eqb, cond-true, cond-false}
 use Rattle.std.specs.Option.{option_to_list}
-use Rattle.tasks.specs.declared.fault.EntryFault.{EntryFault}
-use Rattle.roster_file.specs.declared.fault.Located.{Located}
 use Rattle.tasks.specs.Orders.{in_use}
 use Rattle.tasks.specs.declared.row.Row.{Row}
 use Rattle.roster_file.specs.Entries.{under, Holds}
@@ -56,30 +54,7 @@ holds_more es e ps qs lt free eq h n = under_append n es (e ∷ []) ∙ elim (ca
       let w : get_or qs n None ≡ get_or ps n None = ap (λ xs. get_or xs n None) eq ∙ get_or-set_other ps e.number n (Some e.row) None other in
       rw (v, w) (append-nil (under n es) ∙ h n)
 
--- a record that was entered, though its answer was told beside an offset
-pub entered : {T : Type 0} (P : T → Type 0) (Q : EntryFault → Type 0) (offset : ℕ) (r : Result T EntryFault) (q : Result T Located) (u : T) → MatchResult r P Q → MatchResult r (λ v. q ≡ Ok v) (λ f. q ≡ Err (record { offset = offset; fault = f })) → q ≡ Ok u → P u
-entered P Q offset (Ok v) q u p e w = let same : v ≡ u = cc in subst P same p
-entered P Q offset (Err f) q u p e w = absurd (grind arith)
-
--- one number more: it is kept where there is room, and otherwise counted
-pub numbers_more : (ns xs ys : List ℕ) (n len : ℕ) (before room after : Bool) → length xs ≡ len → xs ≡ take 32 ns → before ≡ leb (length ns) 32 → room ≡ ltb len 32 → ys ≡ cond room (xs ++ (n ∷ [])) xs → after ≡ (before && room)
-    → (ys ≡ take 32 (ns ++ (n ∷ []))) × (after ≡ leb (length (ns ++ (n ∷ []))) 32)
-numbers_more ns xs ys n len before room after l e b r y a = elim (cases_lt (length ns) 32) [ inl below ↦ kept below | inr past ↦ counted past ] where
-  long : length (ns ++ (n ∷ [])) ≡ length ns + 1
-  long = length_push ns n
-
-  fits : len ≡ min 32 (length ns)
-  fits = sym l ∙ ap length e ∙ length-take 32 ns
-
-  kept : length ns < 32 → (ys ≡ take 32 (ns ++ (n ∷ []))) × (after ≡ leb (length (ns ++ (n ∷ []))) 32)
-  kept below =
-      let t : room ≡ true = r ∙ lt-ltb len 32 (omega (arith, fits)) in
-      let u : before ≡ true = b ∙ le-leb _ _ (omega arith) in (
-        y ∙ cond-true room _ _ t ∙ ap (λ zs. zs ++ (n ∷ [])) (e ∙ take_all 32 ns (omega arith)) ∙ sym (take_all 32 (ns ++ (n ∷ [])) (omega (arith, long))),
-        a ∙ and_from before room u t ∙ sym (le-leb _ _ (omega (arith, long))),
-      )
-
-  counted : 32 ≤ length ns → (ys ≡ take 32 (ns ++ (n ∷ []))) × (after ≡ leb (length (ns ++ (n ∷ []))) 32)
-  counted past =
-      let t : room ≡ false = r ∙ le-ltb len 32 (omega (arith, fits)) in
-      (y ∙ cond-false room _ _ t ∙ e ∙ sym (take-append-le 32 ns (n ∷ []) past), a ∙ and_right before room t ∙ sym (lt-leb _ _ (omega (arith, long))))
+-- what holds of the value in an answer, whatever the error is told as
+pub mapped : {T E F : Type 0} (P : T → Type 0) (Q K : E → Type 0) (r : Result T E) (q : Result T F) (x : T) → MatchResult r P Q → MatchResult r (λ v. q ≡ Ok v) K → is_ok q ≡ is_ok r → q ≡ Ok x → P x
+mapped P Q K (Ok v) q x p e s w = let same : v ≡ x = cc in subst P same p
+mapped P Q K (Err f) q x p e s w = absurd (let z = sym s ∙ ap is_ok w in grind arith)

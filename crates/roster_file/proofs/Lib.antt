@@ -1,10 +1,8 @@
 pub mod Bytes
 pub mod Holding
-pub mod Keeping
 pub mod Alike
 pub mod Filled
 pub mod Unique
-pub mod Numbers
 pub mod Reading
 pub mod Spaces
 pub mod Writing

@@ -1,8 +1,10 @@
 -- What the parts of a file say of the whole. Assumes nothing.
-use Rattle.std.proofs.Common.{◌≡◌, ℕ, ◌+◌, ◌<◌, ◌≤◌, List, [], ◌∷◌, ◌++◌, length, get_or, drop, sym, refl, ap, ◌∙◌, subst, inl, inr, le_refl, arith}
-use Rattle.std.proofs.lemmas.List.{nil_from_length, take_all, get_or-take, append-nil, drop_more}
+use Rattle.std.proofs.Common.{◌≡◌, ℕ, ◌+◌, ◌<◌, ◌≤◌, Bool, true, false, List, [], ◌∷◌, ◌++◌, length, get_or, drop, Some, None, Option, sym, refl, ap, ◌∙◌, subst, inl, inr, le_refl, arith, Decides, MatchOption, MatchResult}
+use Rattle.std.proofs.lemmas.List.{nil_from_length, get_or-take, append-nil, drop_more}
+use Rattle.std.specs.Bool.{then_some}
 use Rattle.std.specs.List.{flat_map}
-use Rattle.tasks.specs.Listed.{listed}
+use Rattle.std.specs.Option.{ok_or}
+use Rattle.tasks.specs.declared.order.Order.{Order}
 use Rattle.tasks.specs.declared.table.Table.{Table}
 use Rattle.tasks.proofs.Few.{few}
 use Rattle.roster_file.specs.Entries.{task_bytes, task_width, TaskFits, NoKind, Holds, NotEntered, number_bytes, KeptNumbers}
@@ -22,43 +24,34 @@ abbrev pub TasksStopped : List ℕ → ℕ → ℕ → FileFault → Type 0
 TasksStopped = Stopped task_width task_bytes TaskFits NoKind (λ (s : Tasks) es. Holds es s.table.places) (λ s. NotEntered s.table.places)
 
 abbrev pub NumbersKept : List ℕ → ℕ → ℕ → Numbers → List ℕ → ℕ → Type 0
-NumbersKept = Kept 1 number_bytes (λ (s : Numbers). KeptNumbers (listed s.order) s.complete)
-
-abbrev pub NumbersStopped : List ℕ → ℕ → ℕ → FileFault → Type 0
-NumbersStopped = Stopped 1 number_bytes (λ n. n < 256) (λ _ _ _. ⊥) (λ (s : Numbers). KeptNumbers (listed s.order) s.complete) (λ _ _ _ _. ⊥)
+NumbersKept = Kept 1 number_bytes (λ (s : Numbers). KeptNumbers s.order)
 
 pub joined_each : (ns : List ℕ) → flat_map number_bytes ns ≡ ns
 joined_each [] = refl
 joined_each (n ∷ ns) = ap (λ xs. n ∷ xs) (joined_each ns)
 
--- the order section: its count is missing
-pub order_no_count : (bytes : List ℕ) (at : ℕ) (t : Table) (f : FileFault) → length bytes < 1 → f ≡ fault.Cut (at + length bytes) → OrderRefused bytes at t f
-order_no_count bytes at t f l e = inl (inl (nil_from_length bytes (omega arith)), e)
-
--- a number is missing
-pub order_cut : (bytes rest : List ℕ) (m at start : ℕ) (t : Table) (f : FileFault) → bytes ≡ m ∷ rest → start ≡ at + 1 → NumbersStopped rest start m f → OrderRefused bytes at t f
-order_cut bytes rest m at start t f e a s = by_way s.fails where
-  by_way : NextFails 1 number_bytes (λ n. n < 256) (λ _ _ _. ⊥) (λ (s : Numbers). KeptNumbers (listed s.order) s.complete) (λ _ _ _ _. ⊥) s.s s.left s.at f → OrderRefused bytes at t f
-  by_way (inl (l, q)) =
-      inl (inr (m, rest, e, omega (arith, s.fewer, s.kept.forward, s.kept.end)), q ∙ ap fault.Cut (omega (arith, s.kept.end, ap length e)))
-  by_way (inr (inl (l, n))) = absurd n
-  by_way (inr (inr (n, after, q, l, no_way))) = absurd no_way
-
 module _ (bytes rest : List ℕ) (m at start : ℕ) (t : Table) (s : Numbers) (left : List ℕ) (next : ℕ) (e : bytes ≡ m ∷ rest) (a : start ≡ at + 1) (k : NumbersKept rest start m s left next) where
   order_file : bytes ≡ length k.entries ∷ (k.entries ++ left)
   order_file = e ∙ ap (λ n. n ∷ rest) (sym k.counted) ∙ ap (λ xs. length k.entries ∷ xs) (k.bytes ∙ ap (λ xs. xs ++ left) (joined_each k.entries))
 
-  pub order_unnamed : (Named k.entries t → ⊥) → OrderRefused bytes at t (fault.Order at)
+  order_unnamed : (Named k.entries t → ⊥) → OrderRefused bytes at t (fault.Order at)
   order_unnamed n = inr ((k.entries, left, order_file, n), refl)
 
   few_named : Named k.entries t → length k.entries ≤ 32
   few_named (inl z) = omega (arith, ap length z)
   few_named (inr l) = few k.entries t.places t.full l
 
-  pub order_named : Named k.entries t → OrderRead bytes at t (listed s.order) left next
-  order_named n =
-      let same : k.entries ≡ listed s.order = sym (k.held.0 ∙ take_all 32 k.entries (few_named n)) in
-      subst (λ o. OrderRead bytes at t o left next) same (record { file = order_file; named = n; forward = omega (arith, k.forward, k.counted) })
+  -- no order, since there are more numbers than a table has places, or one that is named or not
+  pub order_answered : (P : Order → Bool → Type 0) (o r : Option Order) → s.order ≡ o → MatchOption o (r ≡ None) (λ x. (b : Bool) × P x b × (r ≡ then_some b x)) → ((x : Order) (b : Bool) → P x b → Decides b (Named x t))
+      → MatchResult (ok_or r (fault.Order at)) (λ x. OrderRead bytes at t x left next) (OrderRefused bytes at t)
+  order_answered P None r q e d = rw e (order_unnamed (λ n. omega (arith, few_named n, subst (λ p. KeptNumbers p k.entries) q k.held)))
+  order_answered P (Some x) r q (b, p, e) d = rw e (by_name b (d x b p)) where
+    same : x ≡ k.entries
+    same = subst (λ p. KeptNumbers p k.entries) q k.held
+
+    by_name : (b : Bool) → Decides b (Named x t) → MatchResult (ok_or (then_some b x) (fault.Order at)) (λ y. OrderRead bytes at t y left next) (OrderRefused bytes at t)
+    by_name true d = subst (λ xs. OrderRead bytes at t xs left next) (sym same) (record { file = order_file; named = subst (λ xs. Named xs t) same (d.0 refl); forward = omega (arith, k.forward, k.counted) })
+    by_name false d = order_unnamed (λ n. let y = d.1 (subst (λ xs. Named xs t) (sym same) n) in grind arith)
 
 -- the records before an offset, as the file has them
 module _ (bytes rest : List ℕ) (count : ℕ) (e : bytes ≡ edition ∷ count ∷ rest) (few : count ≤ 32) where

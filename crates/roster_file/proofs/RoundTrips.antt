@@ -1,12 +1,11 @@
 -- What a file becomes that is read and written again, and what is read back of a file that was written. Assumes nothing.
-use Rattle.std.proofs.Common.{◌≡◌, ℕ, ◌-◌, List, take, drop, Some, None, Ok, Err, Option, Result, sym, refl, ap, subst, inl, inr, arith}
+use Rattle.std.proofs.Common.{◌≡◌, ℕ, List, Some, None, Ok, Err, Option, Result, sym, refl, subst, inl, inr}
 use Rattle.tasks.specs.Orders.{Lists}
 use Rattle.tasks.specs.declared.fault.SpaceFault.{SpaceFault}
-use Rattle.tasks.specs.declared.order.Order.{Order}
 use Rattle.tasks.specs.declared.table.Table.{Table}
-use Rattle.roster_file.specs.Layout.{Named, Layout, Canonical, HoldsJust, Refused}
+use Rattle.roster_file.specs.Layout.{Named, Layout, Canonical, Refused}
 use Rattle.tasks.specs.Spaces.{Written}
-use Rattle.roster_file.specs.Writing.{WrittenAs, Rewritten, Copied, Restored}
+use Rattle.roster_file.specs.Writing.{WrittenAs, Rewritten, Copied}
 use Rattle.roster_file.specs.declared.fault.FileFault.{FileFault}
 use Rattle.roster_file.specs.declared.fault.RewriteFault.{RewriteFault}
 use Rattle.roster_file.specs.declared.fault.RewriteFault.TheVariants.{File, Space}
@@ -44,17 +43,3 @@ written_again file before after t order n l w one = record { rewritten = (t, ord
 pub space_short : (file before after : List ℕ) (t : Table) (order : List ℕ) (r : Result (Option ℕ) RewriteFault) (f : SpaceFault) → r ≡ Err (Space f) → Layout file t order → WrittenAs t order before after (Err f)
     → ((bytes : List ℕ) → Canonical bytes t order → Written bytes before after (Err f)) → Kept file before after r
 space_short file before after t order r f e l w one = subst (Kept file before after) (sym e) (record { rewritten = (t, order, l, w); copied = copied_here file before after t order (Err f) l one })
-
--- what is read from the front of a space that holds just this
-module _ (space : List ℕ) (n : ℕ) (t : Table) (order : List ℕ) (h : HoldsJust (take n space) t order) where
-  front : take (n - 0) (drop 0 space) ≡ take n space
-  front = ap (λ k. take k space) (omega arith)
-
-  pub read_same : (u : Table) (other : List ℕ) → Layout (take (n - 0) (drop 0 space)) u other → (u ≡ t) × (other ≡ order)
-  read_same u other l = h.1 u other (subst (λ bytes. Layout bytes u other) front l)
-
-  pub never_refused : (f : FileFault) → Refused (take (n - 0) (drop 0 space)) f → ⊥
-  never_refused f a = never_both (take n space) t order f h.0 (subst (λ bytes. Refused bytes f) front a)
-
-pub restore_short : (t : Table) (order before after : List ℕ) (held : Table × Order) (r : Result ℕ RewriteFault) (f : SpaceFault) → r ≡ Err (Space f) → WrittenAs t order before after (Err f) → Restored t order before after held held r
-restore_short t order before after held r f e w = subst (Restored t order before after held held) (sym e) (w, refl)

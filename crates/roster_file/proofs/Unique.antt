@@ -7,7 +7,6 @@ use Rattle.std.specs.List.{flat_map}
 use Rattle.std.specs.Option.{option_to_list}
 use Rattle.tasks.proofs.Few.{few_among}
 use Rattle.tasks.specs.Bounds.{Lawful, RecordRefused}
-use Rattle.tasks.specs.Listed.{listed}
 use Rattle.tasks.specs.Orders.{in_use, occurs}
 use Rattle.tasks.specs.Tables.{EntryRefused}
 use Rattle.tasks.specs.declared.kind.Kind.{Kind}
@@ -19,7 +18,8 @@ use Rattle.tasks.specs.declared.fault.RecordFault.{RecordFault}
 use Rattle.tasks.specs.declared.fault.RecordFault.TheVariants as refused
 use Rattle.tasks.specs.declared.fault.EntryFault.{EntryFault}
 use Rattle.tasks.specs.declared.fault.EntryFault.TheVariants.{Invalid, Taken}
-use Rattle.roster_file.specs.Entries.{kind_byte, task_bytes, task_width, TaskFits, Holds, under}
+use Rattle.tasks.specs.Kinds.{kind_byte}
+use Rattle.roster_file.specs.Entries.{task_bytes, task_width, TaskFits, Holds, under}
 use Rattle.roster_file.specs.Layout.{edition, offset, Named, Layout, Begun, Refused}
 use Rattle.roster_file.specs.declared.task_section.TaskEntry.{TaskEntry}
 use Rattle.roster_file.specs.declared.fault.FileFault.{FileFault}
@@ -278,9 +278,9 @@ never_both bytes t o f a b = let e = view_one bytes (Ok (t, o)) (Err f) (view_la
 
 -- what a refusal says, where the table and the order stay as they were
 pub record Only (bytes : List ℕ) (t : Table) (order : Order) (r : Result (Unit {0}) FileFault) : Type 0 where
-  pub outcome : MatchResult r (λ _. Layout bytes t (listed order)) (Refused bytes)
+  pub outcome : MatchResult r (λ _. Layout bytes t order) (Refused bytes)
   pub kept : IfErr r (λ _. (t ≡ t) × (order ≡ order))
-  pub one_layout : (u : Table) (o : List ℕ) → Layout bytes u o → (is_ok r ≡ true) × (t ≡ u) × (listed order ≡ o)
+  pub one_layout : (u : Table) (o : List ℕ) → Layout bytes u o → (is_ok r ≡ true) × (t ≡ u) × (order ≡ o)
   pub one_refusal : (g : FileFault) → Refused bytes g → r ≡ Err g
 
 pub refused_only : (bytes : List ℕ) (t : Table) (order : Order) (r : Result (Unit {0}) FileFault) (f : FileFault) → r ≡ Err f → Refused bytes f → Only bytes t order r

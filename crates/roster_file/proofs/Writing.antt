@@ -1,13 +1,14 @@
 -- The entries of a section by rising place, one place more. Assumes nothing.
-use Rattle.std.proofs.Common.{◌≡◌, ℕ, zero, suc, ◌+◌, ◌-◌, ◌*◌, ◌<◌, ◌≤◌, cond, List, [], ◌∷◌, ◌++◌, length, is_some, Some, None, Option, sym, refl, ap, ◌∙◌, subst, inl, inr, mul-le-mul_left, mul-zero, mul-one, mul-add, add-one, arith, length-append}
+use Rattle.std.proofs.Common.{◌≡◌, ℕ, zero, suc, ◌+◌, ◌-◌, ◌*◌, ◌<◌, ◌≤◌, List, [], ◌∷◌, ◌++◌, length, Some, None, Option, sym, refl, ap, ◌∙◌, subst, inl, inr, mul-le-mul_left, mul-zero, mul-one, mul-add, add-one, arith, length-append}
 use borrow.Rule.Slice.PartMut.{put_mid}
-use Rattle.std.proofs.lemmas.List.{append-nil, flat_map_more, length_push}
+use Rattle.std.proofs.lemmas.List.{append-nil, flat_map_more, length_push, map-id}
 use Rattle.std.proofs.lemmas.Bool.{cases_lt}
-use Rattle.std.specs.List.{flat_map}
+use Rattle.std.proofs.lemmas.List.Elements.{filter_map-append}
+use Rattle.std.proofs.lemmas.List.FromFn.{map-range_with_len_more}
+use Rattle.std.specs.List.{flat_map, filter_map, cons_option, range_with_len}
 use Rattle.std.specs.Option.{option_to_list}
 use Rattle.roster_file.specs.Sections.{below, entries}
 use Rattle.roster_file.specs.Spaces.{Put}
-use Rattle.roster_file.proofs.Holding.{one_or_none}
 use Rattle.roster_file.proofs.Spaces.{put_part, put_then}
 
 module _ {E : Type 0} (placed : ℕ → Option E) where
@@ -19,15 +20,27 @@ module _ {E : Type 0} (placed : ℕ → Option E) where
   unfolding below
   below_more n = ap (below placed) (add-one n)
 
+  range_more : (n : ℕ) → range_with_len 0 (n + 1) ≡ range_with_len 0 n ++ (n ∷ [])
+  range_more n = sym (map-id (range_with_len 0 (n + 1))) ∙ map-range_with_len_more (λ k. k) 0 n n (omega arith) ∙ ap (λ xs. xs ++ (n ∷ [])) (map-id (range_with_len 0 n))
+
+  none_or_one : (o : Option E) → cons_option o [] ≡ option_to_list o
+  none_or_one None = refl
+  none_or_one (Some e) = refl
+
+  -- the entries at the places of a range
+  pub below_range : (n : ℕ) → filter_map placed (range_with_len 0 n) ≡ below placed n
+  unfolding below
+  below_range zero = refl
+  below_range (suc n) =
+      ap (λ k. filter_map placed (range_with_len 0 k)) (sym (add-one n)) ∙ ap (filter_map placed) (range_more n) ∙ filter_map-append placed (range_with_len 0 n) (n ∷ [])
+      ∙ ap (λ es. es ++ cons_option (placed n) []) (below_range n) ∙ ap (λ es. below placed n ++ es) (none_or_one (placed n))
+
   -- an empty place adds none
   pub below_empty : (n : ℕ) → placed n ≡ None → below placed (n + 1) ≡ below placed n
   below_empty n e = below_more n ∙ ap (λ o. below placed n ++ option_to_list o) e ∙ append-nil (below placed n)
 
   pub below_taken : (n : ℕ) (e : E) → placed n ≡ Some e → below placed (n + 1) ≡ below placed n ++ (e ∷ [])
   below_taken n e q = below_more n ∙ ap (λ o. below placed n ++ option_to_list o) q
-
-  pub count_more : (n : ℕ) → length (below placed (n + 1)) ≡ length (below placed n) + cond (is_some (placed n)) 1 0
-  count_more n = ap length (below_more n) ∙ length-append (below placed n) (option_to_list (placed n)) ∙ ap (λ k. length (below placed n) + k) (one_or_none (placed n))
 
   pub length_below : (n m : ℕ) → n ≤ m → length (below placed n) ≤ length (below placed m)
   unfolding below

@@ -1,14 +1,14 @@
 -- How a task and a number stand in a file. Assumes nothing.
-use Rattle.std.specs.Prelude.{◌≡◌, ℕ, zero, suc, ◌+◌, ◌/◌, ◌%◌, ◌^◌, ◌<◌, ◌≤◌, Bool, cond, List, [], ◌∷◌, length, take, None, Option, ◌==◌, nat_le, slice_index, slice_index_or}
-use Rattle.tasks.specs.declared.kind.Kind.{Kind}
-use Rattle.tasks.specs.declared.kind.Kind.TheVariants.{Tolerable, Strict}
+use Rattle.std.specs.Prelude.{◌≡◌, ℕ, zero, suc, ◌+◌, ◌/◌, ◌%◌, ◌^◌, ◌<◌, ◌≤◌, cond, List, [], ◌∷◌, length, Some, None, Option, ◌==◌, slice_index, slice_index_or}
+use Rattle.tasks.specs.Kinds.{kind_byte}
 use Rattle.tasks.specs.declared.row.Row.{Row}
 use Rattle.tasks.specs.declared.fault.EntryFault.{EntryFault}
 use Rattle.tasks.specs.Tables.{EntryRefused}
+use Rattle.tasks.specs.declared.order.Order.{Order}
 use Rattle.roster_file.specs.declared.task_section.TaskEntry.{TaskEntry}
 use Rattle.roster_file.specs.declared.fault.FileFault.{FileFault}
 use Rattle.roster_file.specs.declared.fault.FileFault.TheVariants as fault
-use Rattle.std.specs.List.{flat_map, AllByRecursion}
+use Rattle.std.specs.List.{flat_map, AllByRecursion, slice_get}
 use Rattle.std.specs.Option.{option_map, option_to_list}
 
 -- so many bytes of a number, the lowest first
@@ -23,11 +23,6 @@ time_bytes n = little_endian 4 n
 -- a number takes one byte
 abbrev pub number_bytes : ℕ → List ℕ
 number_bytes n = n ∷ []
-
--- 0 tolerable, 1 strict
-abbrev pub kind_byte : Kind → ℕ
-kind_byte Tolerable = 0
-kind_byte Strict = 1
 
 -- the times of a row in the sequence of the file
 abbrev pub fields : Row → List ℕ
@@ -70,6 +65,12 @@ Holds es ps = (n : ℕ) → under n es ≡ option_to_list (slice_index_or ps n N
 abbrev pub NotEntered : List (Option Row) → TaskEntry → ℕ → FileFault → Type 0
 NotEntered ps e offset f = (g : EntryFault) × (f ≡ fault.Entry (record { offset = offset; fault = g })) × EntryRefused ps e.number e.row g
 
--- the first 32 numbers of an order are kept, as many as a table has places; complete says whether that is all of them
-abbrev pub KeptNumbers : List ℕ → Bool → List ℕ → Type 0
-KeptNumbers kept complete numbers = (kept ≡ take 32 numbers) × (complete ≡ nat_le (length numbers) 32)
+-- an order keeps all the numbers, and there is none exactly where there are more than a table has places
+abbrev pub KeptNumbers : Option Order → List ℕ → Type 0
+KeptNumbers (Some o) numbers = o ≡ numbers
+KeptNumbers None numbers = 32 < length numbers
+
+-- the number at a place of an order, if there is one
+abbrev pub numbers_in : Option Order → ℕ → Option ℕ
+numbers_in (Some o) n = slice_get o n
+numbers_in None n = None

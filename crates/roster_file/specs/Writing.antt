@@ -1,7 +1,6 @@
 -- A file as it is put together from the sections of a table and an order, what a file becomes that is read and written again, and what is
 -- read back of a file that was written. Assumes nothing.
 use Rattle.std.specs.Prelude.{◌≡◌, ℕ, List, [], ◌∷◌, ◌++◌, Some, None, Ok, Err, Option, Result}
-use Rattle.tasks.specs.Listed.{listed}
 use Rattle.tasks.specs.Orders.{Lists}
 use Rattle.tasks.specs.declared.fault.SpaceFault.{SpaceFault}
 use Rattle.tasks.specs.declared.order.Order.{Order}
@@ -41,6 +40,6 @@ Copied file before after (Err (File f)) = ⊥
 -- answer: the canonical file is written, and what is read from it is that table and that order, or the space is too short and both stay as
 -- they were; the file that was written is never refused
 abbrev pub Restored : Table → List ℕ → List ℕ → List ℕ → Table × Order → Table × Order → Result ℕ RewriteFault → Type 0
-Restored t order before after held kept (Ok n) = WrittenAs t order before after (Ok n) × (kept.0 ≡ t) × (listed kept.1 ≡ order)
+Restored t order before after held kept (Ok n) = WrittenAs t order before after (Ok n) × (kept.0 ≡ t) × (kept.1 ≡ order)
 Restored t order before after held kept (Err (Space f)) = WrittenAs t order before after (Err f) × (kept ≡ held)
 Restored t order before after held kept (Err (File f)) = ⊥

@@ -6,9 +6,11 @@ ghost use Rattle.roster_file.specs.Refusals.{located_tells, file_tells, rewrite_
 
 use tasks::fault::{EntryFault, SpaceFault};
 use tasks::refusal::{Fault, Layer, Refusal};
+use thiserror::Error;
 
 // A record's own fault, whole, beside the byte offset of the record.
-#[derive(Clone, Copy, PartialEq, Eq, Debug)]
+#[derive(Clone, Copy, PartialEq, Eq, Debug, Error)]
+#[error("{fault}, in the record at byte {offset}")]
 pub struct Located {
     pub offset: usize,
     pub fault: EntryFault,
@@ -18,34 +20,40 @@ impl Fault for Located {
     ghost tells = { located_tells };
 
     fn refusal(&self) -> Refusal {
-        let inner = self.fault.refusal();
         Refusal {
-            number: inner.number,
             layer: Layer::File,
             place: self.offset,
-            innermost: inner.innermost,
+            ..self.fault.refusal()
         }
     }
 }
 
-#[derive(Clone, Copy, PartialEq, Eq, Debug)]
+#[derive(Clone, Copy, PartialEq, Eq, Debug, Error)]
 pub enum FileFault {
-    // 14: no byte 0, or it is not the edition
+    // 14
+    #[error("there is no byte 0, or it is not the edition")]
     Edition,
-    // 15: the next count, record or number is not whole; the file's length
+    // 15, with the length of the file
+    #[error("the file is cut at byte {0}")]
     Cut(usize),
-    // 16: more than 32 tasks
+    // 16
+    #[error("there are more than 32 tasks")]
     Count,
-    // 17: a kind byte that is neither 0 nor 1; its offset
+    // 17
+    #[error("the byte {0} names no kind")]
     Kind(usize),
     // 1 to 5: a record that does not enter the table
+    #[error("{0}")]
     Entry(Located),
-    // 18: an order that is neither empty nor each task once; the offset of its count
+    // 18, with the offset of the order's count
+    #[error("the order at byte {0} is neither empty nor each task once")]
     Order(usize),
-    // 19: the file goes on; the offset of the first byte too many
+    // 19, with the offset of the first byte too many
+    #[error("the file goes on at byte {0}")]
     Trailing(usize),
 }
 
+// By hand, like the two below: a derived `From` does not say which case it makes, and contracts name it.
 impl From<Located> for FileFault {
     ghost from_gives = { λ e r. r ≡ Entry e };
 
@@ -67,21 +75,18 @@ impl Fault for FileFault {
             FileFault::Order(at) => (18, *at),
             FileFault::Trailing(at) => (19, *at),
         };
-        Refusal {
-            number,
-            layer: Layer::File,
-            place,
-            innermost: number,
-        }
+        Refusal::new(number, Layer::File, place)
     }
 }
 
 // Why a file was not written again in its canonical form.
-#[derive(Clone, Copy, PartialEq, Eq, Debug)]
+#[derive(Clone, Copy, PartialEq, Eq, Debug, Error)]
 pub enum RewriteFault {
     // 1 to 5 and 14 to 19: the file's own fault
+    #[error("{0}")]
     File(FileFault),
     // 20: the space is shorter than the bytes needed
+    #[error("{0}")]
     Space(SpaceFault),
 }
 

@@ -1,19 +1,16 @@
 // The order of a file: task numbers of one byte each.
 ghost use Rattle.std.specs.Prelude.{◌<◌, [], ◌∷◌};
-ghost use Rattle.tasks.specs.Listed.{listed};
-ghost use Rattle.roster_file.specs.Entries.{KeptNumbers};
-ghost use Rattle.std.specs.List.{slice_get};
+ghost use Rattle.roster_file.specs.Entries.{KeptNumbers, numbers_in};
 ghost use Rattle.std.proofs.Common.{refl, ltb-true};
 
 use crate::fault::FileFault;
 use crate::section::Section;
 use tasks::order::Order;
 
-// The first 32 numbers of an order, and whether there were no more.
+// The numbers of an order, or none once there were more than a table has places.
 #[derive(Drop)]
 pub(crate) struct Numbers {
-    pub order: Order,
-    pub complete: bool,
+    pub order: Option<Order>,
 }
 
 impl Section for Numbers {
@@ -21,7 +18,7 @@ impl Section for Numbers {
 
     const WIDTH: usize = 1;
 
-    ghost width = { 1 };
+    ghost WIDTH = { 1 };
 
     ghost encoded = { λ n. n ∷ [] };
 
@@ -29,24 +26,19 @@ impl Section for Numbers {
 
     ghost undecodable = { λ _ _ _. ⊥ };
 
-    ghost holds = { λ s. KeptNumbers (listed s.order) s.complete };
+    ghost holds = { λ s. KeptNumbers s.order };
 
     ghost rejects = { λ _ _ _ _. ⊥ };
 
-    ghost placed = { λ s. slice_get (listed s.order) };
+    ghost placed = { λ s. numbers_in s.order };
 
     ghost narrow = { ltb-true 1 256 refl };
 
     ghost wide = { λ _. refl };
 
-    fn entry_len() -> usize {
-        Self::WIDTH
-    }
-
     fn start() -> Numbers {
         Numbers {
-            order: Order::empty(),
-            complete: true,
+            order: Some(Order::empty()),
         }
     }
 
@@ -55,19 +47,15 @@ impl Section for Numbers {
     }
 
     fn keep(&mut self, entry: u8, _offset: usize) -> Result<(), FileFault> {
-        let kept = self.order.push(entry);
-        self.complete &= kept;
+        self.order = self
+            .order
+            .and_then(|mut order| order.push(entry).then_some(order));
         Ok(())
     }
 
     fn entry_at(&self, place: u8) -> Option<u8> {
-        let numbers = self.order.as_slice();
-        let place = place as usize;
-        if place < numbers.len() {
-            Some(numbers[place])
-        } else {
-            None
-        }
+        let order = self.order?;
+        order.as_slice().get(usize::from(place)).copied()
     }
 
     fn encode(number: u8, bytes: &mut [u8]) {

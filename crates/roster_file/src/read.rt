@@ -1,8 +1,6 @@
 // Reads a whole file into a table and an order handed in.
 ghost use Rattle.std.specs.Prelude.{◌≡◌, ℕ, ◌≤◌, true, List, ◌∷◌, is_ok, Err, Decides, MatchResult, OnErr};
-ghost use Rattle.tasks.specs.Listed.{listed};
 ghost use Rattle.tasks.specs.declared.table.Table.{Table};
-ghost use Rattle.roster_file.specs.Entries.{KeptNumbers};
 ghost use Rattle.roster_file.specs.OrderSection.{OrderRead, OrderRefused};
 ghost use Rattle.roster_file.specs.Layout.{edition, Named, Layout, Refused};
 ghost use Rattle.roster_file.specs.declared.fault.FileFault.{FileFault};
@@ -18,56 +16,47 @@ use tasks::table::Table;
 pub(crate) const EDITION: u8 = 1;
 
 // The most tasks that a table has places for.
-const MOST: u8 = 32;
+pub(crate) const MOST: u8 = 32;
 
 // The count of the tasks, and the bytes after it.
 fn opening(bytes: &[u8]) -> Result<(u8, &[u8]), FileFault>
     ensures { MatchResult result (λ p. (bytes.now ≡ edition ∷ p.0 ∷ p.1.now) × (p.0 ≤ 32)) (Refused bytes.now) }
 {
-    let [first, ..] = bytes else {
-        return Err(FileFault::Edition);
-    };
-    if *first != EDITION {
-        return Err(FileFault::Edition);
+    match bytes {
+        [EDITION, count, rest @ ..] if *count <= MOST => Ok((*count, rest)),
+        [EDITION, _, ..] => Err(FileFault::Count),
+        [EDITION] => Err(FileFault::Cut(bytes.len())),
+        _ => Err(FileFault::Edition),
     }
-    let [_, count, rest @ ..] = bytes else {
-        return Err(FileFault::Cut(bytes.len()));
-    };
-    if *count > MOST {
-        return Err(FileFault::Count);
-    }
-    Ok((*count, rest))
 }
 
 // The order section: empty, or each task of the table once.
 fn read_order(reader: &mut Reader<'_>, table: &Table) -> Result<Order, FileFault>
-    ensures { MatchResult result (λ o. OrderRead reader.old.rest.now reader.old.at table.now (listed o) reader.new.rest.now reader.new.at) (OrderRefused reader.old.rest.now reader.old.at table.now) }
+    ensures { MatchResult result (λ o. OrderRead reader.old.rest.now reader.old.at table.now o reader.new.rest.now reader.new.at) (OrderRefused reader.old.rest.now reader.old.at table.now) }
 {
     let at = reader.at;
     let count = reader.next::<Numbers>()?;
     let numbers = reader.section::<Numbers>(count)?;
-    if !is_named(&numbers, table) {
-        return Err(FileFault::Order(at));
-    }
-    Ok(numbers.order)
+    numbers
+        .order
+        .filter(|order| is_named(order, table))
+        .ok_or(FileFault::Order(at))
 }
 
 // Whether the order is empty or names each task once.
-fn is_named(numbers: &Numbers, table: &Table) -> bool
-    ensures { (all : List ℕ) → KeptNumbers (listed numbers.now.order) numbers.now.complete all → Decides result (Named all table.now) }
+fn is_named(order: &Order, table: &Table) -> bool
+    ensures { Decides result (Named order.now table.now) }
 {
-    let kept = numbers.order.as_slice();
-    if kept.is_empty() {
-        return true;
-    }
-    numbers.complete && table.is_listed_by(kept)
+    let numbers = order.as_slice();
+    numbers.is_empty() || table.is_listed_by(numbers)
 }
 
-// The table and the order that a lawful file holds replace those handed in; a refused file leaves both as they were.
+// The table and the order that a lawful file holds replace those handed in; a refused file leaves both as they were. The two are handed in
+// apart, and not as a `Standing`: a file may leave the order out.
 pub fn read(bytes: &[u8], table: &mut Table, order: &mut Order) -> Result<(), FileFault>
-    ensures outcome { MatchResult result (λ _. Layout bytes.now table.new (listed order.new)) (Refused bytes.now) }
+    ensures outcome { MatchResult result (λ _. Layout bytes.now table.new order.new) (Refused bytes.now) }
     ensures kept { OnErr result ((table.new ≡ table.old) × (order.new ≡ order.old)) }
-    ensures one_layout { (t : Table) (o : List ℕ) → Layout bytes.now t o → (is_ok result ≡ true) × (table.new ≡ t) × (listed order.new ≡ o) }
+    ensures one_layout { (t : Table) (o : List ℕ) → Layout bytes.now t o → (is_ok result ≡ true) × (table.new ≡ t) × (order.new ≡ o) }
     ensures one_refusal { (f : FileFault) → Refused bytes.now f → result ≡ Err f }
 {
     let (count, rest) = opening(bytes)?;

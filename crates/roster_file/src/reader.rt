@@ -17,23 +17,21 @@ pub(crate) struct Reader<'a> {
 impl<'a> Reader<'a> {
     // The next entry of a section of any kind.
     pub fn next<S: Section>(&mut self) -> Result<S::Entry, FileFault>
-        ensures read { MatchResult result (λ e. (self.old.rest.now ≡ S.Section.encoded e ++ self.new.rest.now) × S.Section.fits e × (self.new.at ≡ self.old.at + S.Section.width)) (λ f. ((length self.old.rest.now < S.Section.width) × (f ≡ Cut (self.old.at + length self.old.rest.now))) ⊎ ((S.Section.width ≤ length self.old.rest.now) × S.Section.undecodable (take S.Section.width self.old.rest.now) self.old.at f)) }
+        ensures read { MatchResult result (λ e. (self.old.rest.now ≡ S.Section.encoded e ++ self.new.rest.now) × S.Section.fits e × (self.new.at ≡ self.old.at + S.Section.WIDTH)) (λ f. ((length self.old.rest.now < S.Section.WIDTH) × (f ≡ Cut (self.old.at + length self.old.rest.now))) ⊎ ((S.Section.WIDTH ≤ length self.old.rest.now) × S.Section.undecodable (take S.Section.WIDTH self.old.rest.now) self.old.at f)) }
         ensures end { self.new.at + length self.new.rest.now ≡ self.old.at + length self.old.rest.now }
     {
-        let width = S::entry_len();
-        if self.rest.len() < width {
+        let Some((bytes, rest)) = self.rest.split_at_checked(S::WIDTH) else {
             return Err(FileFault::Cut(self.at + self.rest.len()));
-        }
-        let (bytes, rest) = self.rest.split_at(width);
+        };
         let at = self.at;
         self.rest = rest;
-        self.at = at + width;
+        self.at = at + S::WIDTH;
         S::decode(bytes, at)
     }
 
     // So many entries of a section of any kind, kept one after the other.
     pub fn section<S: Section + Drop>(&mut self, count: u8) -> Result<S, FileFault>
-        ensures { MatchResult result (λ s. Kept S.Section.width S.Section.encoded S.Section.holds self.old.rest.now self.old.at count s self.new.rest.now self.new.at) (Stopped S.Section.width S.Section.encoded S.Section.fits S.Section.undecodable S.Section.holds S.Section.rejects self.old.rest.now self.old.at count) }
+        ensures { MatchResult result (λ s. Kept S.Section.WIDTH S.Section.encoded S.Section.holds self.old.rest.now self.old.at count s self.new.rest.now self.new.at) (Stopped S.Section.WIDTH S.Section.encoded S.Section.fits S.Section.undecodable S.Section.holds S.Section.rejects self.old.rest.now self.old.at count) }
     {
         let mut section = S::start();
         for _kept in 0..count {

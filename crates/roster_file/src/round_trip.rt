@@ -1,6 +1,5 @@
 // A file read and written again, and a roster written and read back.
 ghost use Rattle.std.specs.Prelude.{ℕ, List};
-ghost use Rattle.tasks.specs.Listed.{listed};
 ghost use Rattle.tasks.specs.declared.table.Table.{Table};
 ghost use Rattle.roster_file.specs.Layout.{Canonical};
 ghost use Rattle.roster_file.specs.Writing.{Rewritten, Copied, Restored};
@@ -12,8 +11,8 @@ use tasks::order::Order;
 use tasks::standing::Standing;
 use tasks::table::Table;
 
-// Writes what a file holds in canonical form: the tasks by rising number, the order named. Answers the count of bytes written, or none where
-// the file leaves the order of its tasks out. A canonical file is written as it is.
+// Writes what a file holds in canonical form: the tasks by rising number, the order named. Answers the count of bytes written, or none
+// where the file leaves the order of its tasks out. A canonical file is written as it is.
 pub fn rewrite(file: &[u8], space: &mut [u8]) -> Result<Option<usize>, RewriteFault>
     ensures rewritten { Rewritten file.now space.old space.new result }
     ensures copied { (t : Table) (order : List ℕ) → Canonical file.now t order → Copied file.now space.old space.new result }
@@ -35,7 +34,7 @@ pub fn restore(
     table: &mut Table,
     order: &mut Order,
 ) -> Result<usize, RewriteFault>
-    ensures { Restored standing.now.table (listed standing.now.order) space.old space.new (table.old, order.old) (table.new, order.new) result }
+    ensures { Restored standing.now.table standing.now.order space.old space.new (table.old, order.old) (table.new, order.new) result }
 {
     let written = write(standing, space)?;
     read(&space[0..written], table, order)?;

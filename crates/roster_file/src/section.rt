@@ -10,7 +10,7 @@ pub(crate) trait Section: Sized {
 
     const WIDTH: usize;
 
-    ghost width: { ℕ };
+    ghost WIDTH: { ℕ };
 
     // the bytes of an entry
     ghost encoded: { Self.Entry → List ℕ };
@@ -30,18 +30,14 @@ pub(crate) trait Section: Sized {
     // the entry at a place of the section; the entries are written by rising place
     ghost placed: { Self → ℕ → Option Self.Entry };
 
-    // The width, as clauses can name it.
-    fn entry_len() -> usize
-        ensures { result ≡ width };
-
     // A section with no entry yet.
     fn start() -> Self
         ensures { holds result [] };
 
     // The entry whose bytes stand at an offset of the file.
     fn decode(bytes: &[u8], offset: usize) -> Result<Self::Entry, FileFault>
-        requires whole { length bytes.now ≡ width }
-        requires inside { offset + width < 2 ^ 64 }
+        requires whole { length bytes.now ≡ WIDTH }
+        requires inside { offset + WIDTH < 2 ^ 64 }
         ensures { MatchResult result (λ e. (bytes.now ≡ encoded e) × fits e) (undecodable bytes.now offset) };
 
     // Takes in the entry that stood at an offset.
@@ -53,10 +49,10 @@ pub(crate) trait Section: Sized {
 
     // Writes the bytes of the entry over as many.
     fn encode(entry: Self::Entry, bytes: &mut [u8])
-        requires { length bytes.old ≡ width }
+        requires { length bytes.old ≡ WIDTH }
         ensures { bytes.new ≡ encoded «entry» };
 
-    ghost narrow: { width < 256 };
+    ghost narrow: { WIDTH < 256 };
 
-    ghost wide: { (e : Self.Entry) → length (encoded e) ≡ width };
+    ghost wide: { (e : Self.Entry) → length (encoded e) ≡ WIDTH };
 }

@@ -1,11 +1,11 @@
 // The tasks of a file, entered into a table. The times of a task stand as one list in both codecs.
-ghost use Rattle.std.specs.Prelude.{◌≡◌, ◌+◌, ◌≤◌, length, take, drop, Ok, Err, MatchResult};
-ghost use Rattle.roster_file.specs.Entries.{task_bytes, time_bytes, kind_byte, fields, task_width, TaskFits, NoKind, Holds, NotEntered, tasks_in};
+ghost use Rattle.std.specs.Prelude.{◌≡◌, ◌+◌, ◌≤◌, length, take, drop};
+ghost use Rattle.roster_file.specs.Entries.{task_bytes, time_bytes, fields, task_width, TaskFits, NoKind, Holds, NotEntered, tasks_in};
 ghost use Rattle.std.proofs.Common.{refl, ltb-true};
 
 use crate::fault::{FileFault, Located};
 use crate::section::Section;
-use tasks::fault::EntryFault;
+use std::array;
 use tasks::kind::Kind;
 use tasks::row::Row;
 use tasks::table::Table;
@@ -29,9 +29,9 @@ pub(crate) struct Tasks {
 impl Section for Tasks {
     type Entry = TaskEntry;
 
-    const WIDTH: usize = 22;
+    const WIDTH: usize = 2 + 4 * TIMES;
 
-    ghost width = { task_width };
+    ghost WIDTH = { task_width };
 
     ghost encoded = { task_bytes };
 
@@ -49,10 +49,6 @@ impl Section for Tasks {
 
     ghost wide = { λ _. refl };
 
-    fn entry_len() -> usize {
-        Self::WIDTH
-    }
-
     fn start() -> Tasks {
         Tasks {
             table: Table::empty(),
@@ -60,15 +56,8 @@ impl Section for Tasks {
     }
 
     fn decode(bytes: &[u8], offset: usize) -> Result<TaskEntry, FileFault> {
-        let kind = match bytes[1] {
-            0 => Kind::Tolerable,
-            1 => Kind::Strict,
-            _ => return Err(FileFault::Kind(offset + 1)),
-        };
-        let mut times = [0; TIMES];
-        for i in 0..TIMES {
-            times[i] = time(bytes, 2 + 4 * i);
-        }
+        let kind = Kind::try_from(bytes[1]).map_err(|_| FileFault::Kind(offset + 1))?;
+        let times = array::from_fn(|i| time(bytes, 2 + 4 * i));
         Ok(TaskEntry {
             number: bytes[0],
             row: row_of(kind, times),
@@ -76,29 +65,30 @@ impl Section for Tasks {
     }
 
     fn keep(&mut self, entry: TaskEntry, offset: usize) -> Result<(), FileFault> {
-        located(offset, self.table.enter(entry.number, entry.row))?;
+        self.table
+            .enter(entry.number, entry.row)
+            .map_err(|fault| Located { offset, fault })?;
         Ok(())
     }
 
     fn entry_at(&self, place: u8) -> Option<TaskEntry> {
-        match self.table.row(place) {
-            Some(row) => Some(TaskEntry { number: place, row }),
-            None => None,
-        }
+        self.table
+            .row(place)
+            .map(|row| TaskEntry { number: place, row })
     }
 
     fn encode(task: TaskEntry, bytes: &mut [u8]) {
         bytes[0] = task.number;
-        bytes[1] = byte_of(task.row.kind);
-        let times = times_of(task.row);
-        for i in 0..TIMES {
+        bytes[1] = u8::from(task.row.kind);
+        // not over `chunks_exact_mut`: after it only the length of the bytes is known
+        for (i, time) in times_of(task.row).iter().enumerate() {
             let at = 2 + 4 * i;
-            bytes[at..at + 4].copy_from_slice(&times[i].to_le_bytes());
+            bytes[at..at + 4].copy_from_slice(&time.to_le_bytes());
         }
     }
 }
 
-// The times of a row in the sequence of the file.
+// The times of a row in the sequence of the file. No `From`: neither a row nor a list of times is a type of this crate.
 fn times_of(row: Row) -> [u32; TIMES]
     ensures { result ≡ fields row }
 {
@@ -123,25 +113,6 @@ fn row_of(kind: Kind, times: [u32; TIMES]) -> Row
         section,
         deadline,
         period,
-    }
-}
-
-fn byte_of(kind: Kind) -> u8
-    ensures { result ≡ kind_byte kind }
-{
-    match kind {
-        Kind::Tolerable => 0,
-        Kind::Strict => 1,
-    }
-}
-
-// A record's fault beside the offset of the record.
-fn located(offset: usize, entered: Result<(), EntryFault>) -> Result<(), Located>
-    ensures { MatchResult entered (λ u. result ≡ Ok u) (λ f. result ≡ Err (record { offset = offset; fault = f })) }
-{
-    match entered {
-        Ok(()) => Ok(()),
-        Err(fault) => Err(Located { offset, fault }),
     }
 }
 

@@ -2,13 +2,16 @@
 ghost use Rattle.schedulability.specs.Refusals.{test_tells};
 
 use tasks::refusal::{Fault, Layer, Refusal};
+use thiserror::Error;
 
 // The value given, which is out of its bounds.
-#[derive(Clone, Copy, PartialEq, Eq, Debug)]
+#[derive(Clone, Copy, PartialEq, Eq, Debug, Error)]
 pub enum TestFault {
-    // 21: the reserve is above 1,000,000
+    // 21
+    #[error("the reserve {0} is above 1,000,000")]
     Reserve(u32),
-    // 22: the limit is not from 1 to 1,000,000
+    // 22
+    #[error("the limit {0} is not from 1 to 1,000,000")]
     Limit(u32),
 }
 
@@ -20,12 +23,7 @@ impl Fault for TestFault {
             TestFault::Reserve(reserve) => (21, *reserve),
             TestFault::Limit(limit) => (22, *limit),
         };
-        Refusal {
-            number,
-            layer: Layer::Pile,
-            place: value as usize,
-            innermost: number,
-        }
+        Refusal::new(number, Layer::Pile, value as usize)
     }
 }
 

@@ -1,6 +1,6 @@
 // A layer that keeps a part of every deadline in reserve.
-ghost use Rattle.std.specs.Prelude.{◌≡◌, ◌<◌, ◌≤◌, MatchResult};
-ghost use Rattle.schedulability.specs.Layers.{reserved, shorter};
+ghost use Rattle.std.specs.Prelude.{◌≡◌, ◌<◌, ◌≤◌, None, MatchResult, slice_index_or};
+ghost use Rattle.schedulability.specs.Layers.{longer, reserved, shorter};
 ghost use Rattle.schedulability.specs.Proper.{guarded};
 ghost use Rattle.tasks.specs.Bounds.{longest};
 ghost use Rattle.schedulability.specs.LayersLemmas.{reserved_raise, reserved_removal};
@@ -56,20 +56,12 @@ impl<L: Test> Test for Reserve<L> {
     ghost removal = { λ s. reserved_removal s.reserve (L.Test.says s.below) (L.Test.removal s.below) };
 
     fn passes(&mut self, table: &Table, task: u8, above: TaskSet) -> bool {
-        if !is_proper(table, task, above) {
-            return false;
-        }
-        let Some(row) = table.row(task) else {
-            return false;
-        };
-        if row.deadline <= self.reserve {
-            return false;
-        }
         let by = Shorter {
             reserve: self.reserve,
         };
-        let tighter = table.changed(&by);
-        self.below.passes(&tighter, task, above)
+        is_proper(table, task, above)
+            && by.leaves_time(table, task)
+            && self.below.passes(&table.changed(&by), task, above)
     }
 }
 
@@ -79,6 +71,17 @@ struct Shorter {
     reserve: u32,
 }
 
+impl Shorter {
+    // Whether the deadline of the task is above the reserve.
+    fn leaves_time(&self, table: &Table, task: u8) -> bool
+        ensures { result ≡ longer self.now.reserve (slice_index_or table.now.places task None) }
+    {
+        table
+            .row(task)
+            .is_some_and(|row| row.deadline > self.reserve)
+    }
+}
+
 impl Change for Shorter {
     ghost changed = { λ s. shorter s.reserve };
 
@@ -86,12 +89,8 @@ impl Change for Shorter {
 
     fn change(&self, row: Row) -> Row {
         Row {
-            kind: row.kind,
-            normal: row.normal,
-            abnormal: row.abnormal,
-            section: row.section,
             deadline: row.deadline.saturating_sub(self.reserve).max(1),
-            period: row.period,
+            ..row
         }
     }
 }

@@ -6,6 +6,7 @@ use tasks::set::TaskSet;
 use tasks::table::Table;
 
 // A yes or no for a task on a table with a set of tasks above it. A test may remember things, but not change its meaning.
+// The three stand apart and not in a struct: they are the three arguments of a meaning, and a layer changes the table alone.
 pub trait Test {
     ghost says: { Self → Meaning };
 

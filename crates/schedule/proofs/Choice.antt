@@ -1,7 +1,6 @@
 -- The schedule that in each tick runs the first of the pending jobs, and that there is no other. Assumes nothing.
 use Rattle.std.proofs.Common.{◌≡◌, ℕ, zero, suc, ◌+◌, ◌<◌, ◌≤◌, ◌≢◌, ◌⊎◌, List, length, Some, None, Option, sym, refl, ap, ◌∙◌, subst, inl, inr, arith}
 use Rattle.std.proofs.lemmas.Bool.{cases_eq, cases_lt}
-use Rattle.tasks.specs.Listed.{listed}
 use Rattle.tasks.specs.declared.standing.Standing.{Standing}
 use Rattle.schedule.specs.Jobs.{job_at, JobsLawful}
 use Rattle.schedule.specs.Schedule.{Schedule, runs, served, Pending, Before, IsSchedule}
@@ -41,7 +40,7 @@ Best o js f t n (Some i) = (i < n) × Waits js f t i × ((j : ℕ) → j < n →
 
 module _ (s : Standing) (js : List Job) (law : JobsLawful s.table.places js) where
   abbrev o : List ℕ
-  o = listed s.order
+  o = s.order
 
   module _ (f : ℕ → ℕ) (t : ℕ) where
     step : (n : ℕ) → n < length js → Waits js f t n ⊎ (Waits js f t n → ⊥) → (q : Option ℕ) → Best o js f t n q

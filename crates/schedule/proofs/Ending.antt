@@ -2,7 +2,6 @@
 use Rattle.std.proofs.Common.{◌≡◌, ℕ, zero, suc, ◌+◌, ◌-◌, ◌*◌, ◌<◌, ◌≤◌, List, length, ap, inl, inr, arith}
 use Rattle.std.proofs.lemmas.Bool.{cases_lt}
 use Rattle.tasks.specs.Bounds.{longest}
-use Rattle.tasks.specs.Listed.{listed}
 use Rattle.tasks.specs.declared.standing.Standing.{Standing}
 use Rattle.schedule.specs.Existence.{AllEnd, OneSchedule}
 use Rattle.schedule.specs.Jobs.{job_at, last_release, JobsLawful}
@@ -65,15 +64,15 @@ released : (s : Standing) (js : List Job) → JobsLawful s.table.places js → (
 released s js law j in-j = let row = row_of s.table.places (job_at js j).task (law j in-j).0 in ((law j in-j).1 row.0 row.1).0
 
 -- a job that is not finished at t shows that t is not far: the last release, and then no more ticks than all jobs take
-pub not_far : (s : Standing) (js : List Job) → JobsLawful s.table.places js → (σ : Schedule) → IsSchedule (listed s.order) js σ → (j t : ℕ) → j < length js → served σ j t < (job_at js j).length → t ≤ total js + last_release
+pub not_far : (s : Standing) (js : List Job) → JobsLawful s.table.places js → (σ : Schedule) → IsSchedule s.order js σ → (j t : ℕ) → j < length js → served σ j t < (job_at js j).length → t ≤ total js + last_release
 not_far s js law σ sch j t in-j wait = elim (cases_lt t last_release) [
   | inl l ↦ omega arith
   | inr l ↦
       let e : t ≡ (t - last_release) + last_release = omega arith in
       omega (
         arith,
-        climbs (listed s.order) js σ sch last_release (released s js law) j in-j (t - last_release) (rw e at wait),
-        sum_to_le (λ i. served σ i ((t - last_release) + last_release)) (λ i. (job_at js i).length) (length js) (λ i _. served_within (listed s.order) js σ sch i ((t - last_release) + last_release)),
+        climbs s.order js σ sch last_release (released s js law) j in-j (t - last_release) (rw e at wait),
+        sum_to_le (λ i. served σ i ((t - last_release) + last_release)) (λ i. (job_at js i).length) (length js) (λ i _. served_within s.order js σ sch i ((t - last_release) + last_release)),
       )
 ]
 
@@ -86,4 +85,4 @@ total_le s js law =
 pub one_schedule : OneSchedule
 one_schedule s js law =
     let is = chosen_is_schedule s js law in
-    (chosen s js law, is, (λ τ other. same_schedule (listed s.order) js (chosen s js law) τ is other), all_end (listed s.order) js (chosen s js law) is last_release (released s js law))
+    (chosen s js law, is, (λ τ other. same_schedule s.order js (chosen s js law) τ is other), all_end s.order js (chosen s js law) is last_release (released s js law))

@@ -1,16 +1,15 @@
 -- What a lawful list of jobs and a standing order give to a proof. Assumes nothing.
-use Rattle.std.proofs.Common.{◌≡◌, ℕ, suc, ◌<◌, ◌≤◌, true, eqb, ◌≢◌, ◌⊎◌, List, [], ◌∷◌, length, get_or, is_some, Some, None, Option, sym, refl, ap, ◌∙◌, inl, inr, arith}
+use Rattle.std.proofs.Common.{◌≡◌, ℕ, suc, ◌<◌, ◌≤◌, true, eqb, ◌≢◌, ◌⊎◌, List, [], ◌∷◌, length, get_or, Some, None, Option, sym, ap, ◌∙◌, inl, inr, arith}
 use Rattle.demand.specs.Demand.{cost}
 use Rattle.demand.specs.declared.mode.Mode.{Mode}
 use Rattle.demand.specs.declared.mode.Mode.TheVariants.{Normal, Abnormal}
 use Rattle.std.proofs.lemmas.List.{get_or_past}
-use Rattle.std.proofs.lemmas.Bool.{cases_eq, cases_lt, cond-true, cond-false, eq-eqb, ne_eqb, both_ways}
-use Rattle.tasks.specs.Listed.{listed}
+use Rattle.std.proofs.lemmas.Bool.{cases_eq, cases_lt, cond-true, cond-false, eq-eqb, ne_eqb}
 use Rattle.tasks.specs.Orders.{occurs, in_use}
 use Rattle.tasks.specs.declared.row.Row.{Row}
 use Rattle.tasks.specs.declared.standing.Standing.{Standing}
-use Rattle.tasks.specs.declared.table.Table.{Table}
 use Rattle.tasks.proofs.Members.{occurs_other}
+use Rattle.tasks.proofs.Places.{some_row}
 use Rattle.schedule.specs.Analysis.{Keeps}
 use Rattle.schedule.specs.Jobs.{no_job, job_at, Apart, JobsLawful}
 use Rattle.schedule.specs.Schedule.{place, Before}
@@ -32,23 +31,12 @@ place_one xs a b p q e = sym (place_named xs a p) ∙ ap (λ i. get_or xs i 0) e
 
 -- ---- tasks on a table
 
-some_row : (o : Option Row) → is_some o ≡ true → (r : Row) × (o ≡ Some r)
-some_row (Some r) e = (r, refl)
-some_row None e = absurd (both_ways (is_some {T = Row} None) refl e)
-
 -- the row of a task on the table
 pub row_of : (ps : List (Option Row)) (n : ℕ) → in_use ps n ≡ true → (r : Row) × (get_or ps n None ≡ Some r)
 row_of ps n e = some_row (get_or ps n None) e
 
--- a number on the table is a number of a place
-pub on_table : (t : Table) (n : ℕ) → in_use t.places n ≡ true → n < 32
-on_table t n e = elim (cases_lt n 32) [
-  | inl l ↦ l
-  | inr l ↦ let past : 32 ≤ n = l in absurd (both_ways (in_use t.places n) (ap is_some (get_or_past t.places n None (omega (arith, t.full)))) e)
-]
-
 -- a task on the table is named by the standing order
-pub named : (s : Standing) (n : ℕ) → in_use s.table.places n ≡ true → 1 ≤ occurs n (listed s.order)
+pub named : (s : Standing) (n : ℕ) → in_use s.table.places n ≡ true → 1 ≤ occurs n s.order
 named s n e = omega (arith, s.named n, cond-true {A = ℕ} (in_use s.table.places n) 1 0 e)
 
 -- ---- lawful jobs
@@ -70,9 +58,9 @@ module _ (s : Standing) (js : List Job) (law : JobsLawful s.table.places js) whe
   ]
 
   -- of two jobs one goes before the other
-  pub one_before : (i j : ℕ) → i < length js → j < length js → i ≢ j → Before (listed s.order) (job_at js i) (job_at js j) ⊎ Before (listed s.order) (job_at js j) (job_at js i)
+  pub one_before : (i j : ℕ) → i < length js → j < length js → i ≢ j → Before s.order (job_at js i) (job_at js j) ⊎ Before s.order (job_at js j) (job_at js i)
   one_before i j in-i in-j d =
-      let o = listed s.order in
+      let o = s.order in
       let a = (job_at js i).task in
       let b = (job_at js j).task in
       elim (cases_lt (place o a) (place o b)) [

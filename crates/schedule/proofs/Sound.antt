@@ -4,7 +4,6 @@ use Rattle.demand.specs.Demand.{cost, share, interference, Serves, search_end}
 use Rattle.demand.specs.declared.mode.Mode.{Mode}
 use Rattle.std.proofs.lemmas.Bool.{cases_lt, cond-true, lt-ltb, both_ways}
 use Rattle.tasks.proofs.Members.{occurs_from}
-use Rattle.tasks.specs.Listed.{listed}
 use Rattle.tasks.specs.Orders.{occurs}
 use Rattle.tasks.specs.Sets.{member, members}
 use Rattle.tasks.specs.declared.row.Row.{Row}
@@ -13,7 +12,8 @@ use Rattle.schedule.specs.Analysis.{Keeps, HasAbove, AnalysisSound}
 use Rattle.schedule.specs.Jobs.{job_at, due, JobsLawful}
 use Rattle.schedule.specs.Schedule.{Schedule, served, Pending, Higher, IsSchedule}
 use Rattle.schedule.specs.declared.job.Job.{Job}
-use Rattle.schedule.proofs.Laws.{on_table, apart, within_cost}
+use Rattle.tasks.proofs.Places.{on_table}
+use Rattle.schedule.proofs.Laws.{apart, within_cost}
 use Rattle.schedule.proofs.Totals.{sum_to, sum_to_le, sum_to_lt, sum_to_scale, sum_to_zero, sum_over, sum_over_mono, sum_over_lt}
 use Rattle.schedule.proofs.Releases.{hits, mark, from_hits, hits_from, few_releases}
 use Rattle.schedule.proofs.Service.{served_mono, served_more, served_within, runs_before, runs_higher}
@@ -54,12 +54,12 @@ shares : (m : Mode) (ps : List (Option Row)) (is : List ℕ) (t : ℕ) → sum_o
 shares m ps [] t = refl
 shares m ps (i ∷ is) t = ap (λ x. share m t (get_or ps i None) + x) (shares m ps is t)
 
-module _ (m : Mode) (st : Standing) (js : List Job) (σ : Schedule) (law : JobsLawful st.table.places js) (keeps : Keeps m st.table.places js) (sch : IsSchedule (listed st.order) js σ) where
+module _ (m : Mode) (st : Standing) (js : List Job) (σ : Schedule) (law : JobsLawful st.table.places js) (keeps : Keeps m st.table.places js) (sch : IsSchedule st.order js σ) where
   abbrev ps : List (Option Row)
   ps = st.table.places
 
   abbrev o : List ℕ
-  o = listed st.order
+  o = st.order
 
   -- a job that runs adds to the load of its task
   load_more : (s e u j : ℕ) → σ u ≡ Some j → s ≤ (job_at js j).release → (job_at js j).release < e

@@ -3,7 +3,6 @@ use Rattle.std.specs.Prelude.{◌≡◌, ℕ, ◌+◌, ◌<◌, ◌≤◌, true,
 use Rattle.demand.specs.Demand.{Serves, search_end, told}
 use Rattle.demand.specs.declared.mode.Mode.{Mode}
 use Rattle.demand.specs.declared.mode.Mode.TheVariants.{Normal, Abnormal}
-use Rattle.tasks.specs.Listed.{listed}
 use Rattle.tasks.specs.Sets.{member}
 use Rattle.tasks.specs.declared.row.Row.{Row}
 use Rattle.tasks.specs.declared.standing.Standing.{Standing}
@@ -24,8 +23,8 @@ HasAbove o k h = (i : ℕ) → Higher o i k → member h i ≡ true
 -- each job of task k ends within the time that is told of t, and when it is due at the latest. Nothing is asked of the other tasks.
 abbrev pub AnalysisSound : Type 0
 AnalysisSound = (m : Mode) (s : Standing) (js : List Job) (σ : Schedule)
-    → JobsLawful s.table.places js → Keeps m s.table.places js → IsSchedule (listed s.order) js σ
-    → (k : ℕ) (r : Row) (h t : ℕ) → slice_index_or s.table.places k None ≡ Some r → HasAbove (listed s.order) k h
+    → JobsLawful s.table.places js → Keeps m s.table.places js → IsSchedule s.order js σ
+    → (k : ℕ) (r : Row) (h t : ℕ) → slice_index_or s.table.places k None ≡ Some r → HasAbove s.order k h
     → t ≤ search_end r → Serves m s.table.places r h t
     → (j f : ℕ) → j < length js → (job_at js j).task ≡ k → Ends js σ j f
     → (f ≤ arrival (job_at js j) + told r t) × (f ≤ due r (job_at js j))

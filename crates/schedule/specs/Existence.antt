@@ -1,6 +1,5 @@
 -- The statement that a lawful list of jobs has one schedule, in which every job ends. Assumes nothing.
 use Rattle.std.specs.Prelude.{◌≡◌, ℕ, ◌<◌, List, length}
-use Rattle.tasks.specs.Listed.{listed}
 use Rattle.tasks.specs.declared.standing.Standing.{Standing}
 use Rattle.schedule.specs.Jobs.{JobsLawful}
 use Rattle.schedule.specs.Schedule.{Schedule, IsSchedule, Ends}
@@ -17,4 +16,4 @@ AllEnd js σ = (j : ℕ) → j < length js → (f : ℕ) × Ends js σ j f × ((
 -- under a standing order, every lawful list of jobs has a schedule; it is the only one, and every job ends in it
 abbrev pub OneSchedule : Type 0
 OneSchedule = (s : Standing) (js : List Job) → JobsLawful s.table.places js
-    → (σ : Schedule) × IsSchedule (listed s.order) js σ × Only (listed s.order) js σ × AllEnd js σ
+    → (σ : Schedule) × IsSchedule s.order js σ × Only s.order js σ × AllEnd js σ

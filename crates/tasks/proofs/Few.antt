@@ -36,19 +36,20 @@ tally_le : (m : ℕ) (xs : List ℕ) → ((n : ℕ) → occurs n xs ≤ 1) → t
 tally_le zero xs e = omega arith
 tally_le (suc m) xs e = omega (arith, e m, tally_le m xs e)
 
-at_most : (b : Bool) → cond b 1 0 ≤ 1
-at_most true = omega arith
-at_most false = omega arith
+-- what is counted by a yes or no
+pub at_most_one : (b : Bool) → cond b 1 0 ≤ 1
+at_most_one true = omega arith
+at_most_one false = omega arith
 
 -- numbers below m, each at most once, are at most m
 pub few_below : (m : ℕ) (xs : List ℕ) → ((n : ℕ) → occurs n xs ≤ cond (ltb n m) 1 0) → length xs ≤ m
 few_below m xs e =
     let l = tally_length m xs (λ n q. omega (arith, e n, cond-false {A = ℕ} (ltb n m) 1 0 (le-ltb n m q))) in
-    omega (arith, tally_le m xs (λ n. omega (arith, e n, at_most (ltb n m))))
+    omega (arith, tally_le m xs (λ n. omega (arith, e n, at_most_one (ltb n m))))
 
 in_use_below : (ps : List (Option Row)) (n : ℕ) → cond (in_use ps n) 1 0 ≤ cond (ltb n (length ps)) 1 0
 in_use_below ps n = elim (cases_lt n (length ps)) [
-  | inl l ↦ omega (arith, at_most (in_use ps n), cond-true {A = ℕ} (ltb n (length ps)) 1 0 (lt-ltb n (length ps) l))
+  | inl l ↦ omega (arith, at_most_one (in_use ps n), cond-true {A = ℕ} (ltb n (length ps)) 1 0 (lt-ltb n (length ps) l))
   | inr l ↦ omega (arith, cond-false {A = ℕ} (in_use ps n) 1 0 (ap is_some (get_or_past ps n None l)))
 ]
 

@@ -3,6 +3,7 @@ pub mod Same
 pub mod Sets
 pub mod Members
 pub mod Listing
+pub mod Ordered
 pub mod Few
 pub mod Subsets
 pub mod Changing

@@ -8,7 +8,7 @@ use Rattle.tasks.specs.Sets.{member, excluding, members_from}
 use Rattle.tasks.specs.Orders.{occurs}
 use Rattle.tasks.proofs.Sets.{member_zero, member_suc, excluding_zero, excluding_suc, member_excluding, member_in, member_past}
 
-parity : (h : ℕ) → (h % 2 ≡ 1) ⊎ (h % 2 ≡ 0)
+pub parity : (h : ℕ) → (h % 2 ≡ 1) ⊎ (h % 2 ≡ 0)
 parity h = grind arith
 
 -- ---- one more bit

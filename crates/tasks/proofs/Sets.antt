@@ -88,9 +88,6 @@ member_excluding h (suc n) (suc j) =
     ∙ ap (λ x. x && not (eqb j n)) (sym (member_suc h j)) ∙ ap (λ x. member h (suc j) && not x) (sym (eqb-suc-suc j n))
 
 -- `h - (1 << n)` at w bits
-pub sub_fits : (w h n : ℕ) → n < w → member h n ≡ true → (1 * 2 ^ n) % 2 ^ w ≤ h
-sub_fits w h n l e = omega (arith, one_shl n w l, member_le h n e)
-
 pub sub_excluding : (w h n : ℕ) → n < w → member h n ≡ true → h - (1 * 2 ^ n) % 2 ^ w ≡ excluding h n
 sub_excluding w h n l e = ap (λ x. h - x) (one_shl n w l) ∙ sym (cond-true (member h n) (h - 2 ^ n) h e)
 

@@ -1,8 +1,10 @@
 pub mod Bounds
+pub mod Kinds
 pub mod Refusals
 pub mod Sets
+pub mod Numbers
 pub mod Orders
-pub mod Listed
 pub mod Tables
+pub mod Told
 pub mod Changes
 pub mod Spaces

@@ -4,17 +4,22 @@ ghost use Rattle.tasks.specs.declared.fault.EntryFault.TheVariants.{Invalid};
 ghost use Rattle.tasks.specs.Refusals.{record_tells, entry_tells, space_tells};
 
 use crate::refusal::{Fault, Layer, Refusal};
+use thiserror::Error;
 
 // The first question of a record that is answered no, with the task number given.
-#[derive(Clone, Copy, PartialEq, Eq, Debug)]
+#[derive(Clone, Copy, PartialEq, Eq, Debug, Error)]
 pub enum RecordFault {
-    // 1: the number is above 31
+    // 1
+    #[error("the task number {0} is above 31")]
     Number(u8),
-    // 2: not 1 ≤ N ≤ A ≤ 1,000,000
+    // 2
+    #[error("the times of task {0} are not 1 ≤ N ≤ A ≤ 1,000,000")]
     Times(u8),
-    // 3: not 1 ≤ D ≤ T ≤ 1,000,000
+    // 3
+    #[error("the window of task {0} is not 1 ≤ D ≤ T ≤ 1,000,000")]
     Window(u8),
-    // 4: S is above N
+    // 4
+    #[error("the section of task {0} is longer than its normal time")]
     Section(u8),
 }
 
@@ -28,24 +33,22 @@ impl Fault for RecordFault {
             RecordFault::Window(task) => (3, *task),
             RecordFault::Section(task) => (4, *task),
         };
-        Refusal {
-            number,
-            layer: Layer::Record,
-            place: task as usize,
-            innermost: number,
-        }
+        Refusal::new(number, Layer::Record, task as usize)
     }
 }
 
 // Why a record did not enter a table.
-#[derive(Clone, Copy, PartialEq, Eq, Debug)]
+#[derive(Clone, Copy, PartialEq, Eq, Debug, Error)]
 pub enum EntryFault {
     // 1 to 4: the record's own fault
+    #[error("{0}")]
     Invalid(RecordFault),
-    // 5: the number's place is not empty
+    // 5
+    #[error("the number {0} has a task already")]
     Taken(u8),
 }
 
+// By hand: a derived `From` does not say which case it makes, and contracts name it.
 impl From<RecordFault> for EntryFault {
     ghost from_gives = { λ e r. r ≡ Invalid e };
 
@@ -60,18 +63,14 @@ impl Fault for EntryFault {
     fn refusal(&self) -> Refusal {
         match self {
             EntryFault::Invalid(fault) => fault.refusal(),
-            EntryFault::Taken(task) => Refusal {
-                number: 5,
-                layer: Layer::Roster,
-                place: *task as usize,
-                innermost: 5,
-            },
+            EntryFault::Taken(task) => Refusal::new(5, Layer::Roster, *task as usize),
         }
     }
 }
 
-// 20: the space for a file or a text is shorter than the bytes needed.
-#[derive(Clone, Copy, PartialEq, Eq, Debug)]
+// 20
+#[derive(Clone, Copy, PartialEq, Eq, Debug, Error)]
+#[error("the space is shorter than the {needed} bytes needed")]
 pub struct SpaceFault {
     pub needed: usize,
 }
@@ -80,11 +79,6 @@ impl Fault for SpaceFault {
     ghost tells = { space_tells };
 
     fn refusal(&self) -> Refusal {
-        Refusal {
-            number: 20,
-            layer: Layer::File,
-            place: self.needed,
-            innermost: 20,
-        }
+        Refusal::new(20, Layer::File, self.needed)
     }
 }

@@ -13,3 +13,4 @@ pub mod set;
 pub mod standing;
 pub mod table;
 pub mod tasks_of;
+pub mod walk;

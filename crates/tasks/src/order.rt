@@ -1,28 +1,47 @@
-// An order of tasks: their numbers, highest priority first, at most one for each place of a table.
-ghost use Rattle.std.specs.Prelude.{◌≡◌, ◌+◌, ◌<◌, ◌≤◌, false, [], ◌∷◌, ◌++◌, reverse, length, take, if◌then◌else◌, MatchOption, nat_lt};
+// An order of tasks: their numbers, highest priority first, at most one for each place of a table. Clauses see it as the list of its
+// numbers.
+ghost use Rattle.std.specs.Prelude.{◌≡◌, ◌<◌, ◌≤◌, false, [], ◌∷◌, ◌++◌, reverse, length, if◌then◌else◌, MatchOption, nat_lt};
 
-#[derive(Clone, Copy)]
+use crate::table::PLACES;
+use std::marker::Model;
+
+// An array and a count, and no `Vec`: planning and reading allocate nothing, and an order is `Copy`. Not one type with the lines of a
+// listing: a generic struct may hold no array of a type parameter.
+#[derive(Clone, Copy, PartialEq, Eq, Debug)]
 pub struct Order {
-    pub(crate) numbers: [u8; 32],
-    pub(crate) len: usize,
-    ghost full: { length numbers ≡ 32 },
-    ghost few: { len ≤ 32 },
+    numbers: [u8; PLACES],
+    len: usize,
+}
+
+impl Model for Order {
+    ghost use Rattle.std.specs.Prelude.{ℕ, List};
+
+    ghost Value = { List ℕ };
+
+    ghost use Rattle.tasks.specs.Numbers.{numbers_of, WithinPlaces, placed, placed_numbers_of};
+
+    ghost view = { numbers_of };
+
+    ghost invariant = { WithinPlaces };
+
+    ghost inverse = { placed };
+
+    ghost inverse_ok = { placed_numbers_of };
 }
 
 impl Order {
     pub fn empty() -> Order
-        ensures len { result.len ≡ 0 }
-        ensures listed { take result.len result.numbers ≡ [] }
+        ensures { result ≡ [] }
     {
         Order {
-            numbers: [0; 32],
+            numbers: [0; PLACES],
             len: 0,
         }
     }
 
     // The numbers in their order; none exactly where there are more than a table has places.
     pub fn from_slice(numbers: &[u8]) -> Option<Order>
-        ensures { MatchOption result (32 < length numbers.now) (λ o. take o.len o.numbers ≡ numbers.now) }
+        ensures { MatchOption result (32 < length numbers.now) (λ o. (o ≡ numbers.now) × (length numbers.now ≤ 32)) }
     {
         let mut order = Order::empty();
         for number in numbers {
@@ -33,40 +52,34 @@ impl Order {
         Some(order)
     }
 
-    // Whether there is room for the number; it then stands at the end.
+    // Whether there is room for the number; it then stands at the end. A no has one reason, so it is no fault to tell: a set's insert
+    // answers so too.
     pub fn push(&mut self, number: u8) -> bool
-        ensures room { result ≡ nat_lt self.old.len 32 }
-        ensures listed { take self.new.len self.new.numbers ≡ (if result then take self.old.len self.old.numbers ++ number ∷ [] else take self.old.len self.old.numbers) }
-        ensures len { self.new.len ≡ (if result then self.old.len + 1 else self.old.len) }
-        ensures kept { result ≡ false → self.new ≡ self.old }
+        ensures room { result ≡ nat_lt (length self.old) 32 }
+        ensures pushed { self.new ≡ (if result then self.old ++ number ∷ [] else self.old) }
+        ensures few { length self.old ≤ 32 }
     {
-        if self.len == self.numbers.len() {
+        if self.len == PLACES {
             return false;
         }
-        let mut numbers = self.numbers;
-        numbers[self.len] = number;
-        *self = Order {
-            numbers,
-            len: self.len + 1,
-        };
+        self.numbers[self.len] = number;
+        self.len += 1;
         true
     }
 
     // The same numbers, the last first.
     pub fn reversed(&self) -> Order
-        ensures listed { take result.len result.numbers ≡ reverse (take self.now.len self.now.numbers) }
-        ensures len { result.len ≡ self.now.len }
+        ensures { result ≡ reverse self.now }
     {
         let mut numbers = self.numbers;
-        numbers[0..self.len].reverse();
-        Order {
-            numbers,
-            len: self.len,
-        }
+        let len = self.len;
+        numbers[0..len].reverse();
+        Order { numbers, len }
     }
 
     pub fn as_slice(&self) -> &[u8]
-        ensures { result.now ≡ take self.now.len self.now.numbers }
+        ensures numbers { result.now ≡ self.now }
+        ensures few { length self.now ≤ 32 }
     {
         &self.numbers[0..self.len]
     }

@@ -11,7 +11,7 @@ pub const LAST: u8 = 31;
 // The longest time of any kind, in ticks.
 pub const LONGEST: u32 = 1_000_000;
 
-#[derive(Clone, Copy)]
+#[derive(Clone, Copy, PartialEq, Eq, Debug)]
 pub struct Record {
     pub(crate) number: u8,
     pub(crate) row: Row,

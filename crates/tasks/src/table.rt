@@ -2,13 +2,13 @@
 ghost use Rattle.std.specs.Prelude.{◌≡◌, length, replicate, IfSome, Some, None, slice_index_or, slice_set};
 ghost use Rattle.tasks.specs.Bounds.{Times, Window, Section, Bounded, Every};
 
-use crate::record::{LAST, Record};
+use crate::record::Record;
 use crate::row::Row;
 
 // How many places a table has.
 pub const PLACES: usize = 32;
 
-#[derive(Clone, Copy)]
+#[derive(Clone, Copy, PartialEq, Eq, Debug)]
 pub struct Table {
     pub(crate) places: [Option<Row>; PLACES],
     ghost full: { length places ≡ 32 },
@@ -31,10 +31,7 @@ impl Table {
         ensures value { result ≡ slice_index_or self.now.places number None }
         ensures bounds { IfSome result Bounded }
     {
-        if number > LAST {
-            return None;
-        }
-        self.places[number as usize]
+        *self.places.get(number as usize)?
     }
 
     // Puts the record in its place, whatever the place held.

@@ -1,6 +1,7 @@
 -- What the searches tell, as the yes or no of a test. Assumes nothing.
-use Rattle.std.proofs.Common.{◌≡◌, ℕ, ◌+◌, ◌≤◌, true, ◌&&◌, leb, List, is_some, Some, None, Option, sym, ap, arith, MatchOption}
+use Rattle.std.proofs.Common.{◌≡◌, ℕ, ◌+◌, ◌≤◌, Bool, true, false, ◌&&◌, leb, List, is_some, Some, None, Option, sym, ap, ◌∙◌, arith, MatchOption}
 use Rattle.std.proofs.lemmas.Bool.{leb-true, le-leb}
+use Rattle.std.proofs.lemmas.Option.{MatchOption-at_some}
 use Rattle.std.specs.Option.{option_map}
 use Rattle.tasks.specs.declared.row.Row.{Row}
 use Rattle.tasks.specs.declared.table.Table.{Table}
@@ -23,14 +24,15 @@ covering_says ps r k h fixed x e l =
     least_present (Covers Normal ps h fixed) (λ n. leb (demand Normal ps r h n + blocking ps k h) n) (λ n. (λ y. omega (arith, leb-true _ _ y), λ c. le-leb _ _ (omega arith))) r.deadline x l
 
 -- a proper question is answered by the rule
-pub after_proper : (rule : Meaning) (t : Table) (k h : ℕ) → proper t k h ≡ true → guarded rule t k h ≡ rule t k h
-after_proper rule t k h e = ap (λ b. b && rule t k h) e
+pub after_proper : (rule : Meaning) (t : Table) (k h : ℕ) (b : Bool) → true ≡ proper t k h → b ≡ rule t k h → b ≡ guarded rule t k h
+after_proper rule t k h b p e = e ∙ ap (λ x. x && rule t k h) p
 
 -- the deadline serves
-pub deadline_says : (m : Mode) (ps : List (Option Row)) (h : ℕ) (o : Option Row) (r : Row) (asked : ℕ) → Some r ≡ o → Some asked ≡ option_map (λ row. demand m ps row h r.deadline) o → 1 ≤ r.deadline → asked ≤ r.deadline → true ≡ of_task o (λ row. present m ps row h)
-deadline_says m ps h (Some row) r asked e d l b =
+pub deadline_says : {P : ℕ → Type 0} (m : Mode) (ps : List (Option Row)) (h : ℕ) (o : Option Row) (r : Row) (asked : Option ℕ) (b : Bool) → Some r ≡ o → asked ≡ option_map (λ row. demand m ps row h r.deadline) o → 1 ≤ r.deadline → MatchOption asked (b ≡ false) P → ((n : ℕ) → P n → b ≡ leb n r.deadline) → b ≡ true
+    → b ≡ of_task o (λ row. present m ps row h)
+deadline_says {P} m ps h (Some row) r asked b e d l s f y =
     let same : r ≡ row = cc in
     let due : row.deadline ≡ r.deadline = ap (λ x. x.deadline) (sym same) in
-    let n : asked ≡ demand m ps row h r.deadline = cc in
-    sym (some_at (λ t. leb (demand m ps row h t) t) (search_end row) r.deadline l (omega arith) (le-leb _ _ (omega arith)))
-deadline_says m ps h None r asked e d l b = absurd (grind arith)
+    let met = f (demand m ps row h r.deadline) (MatchOption-at_some (b ≡ false) P (demand m ps row h r.deadline) d s) in
+    y ∙ sym (some_at (λ t. leb (demand m ps row h t) t) (search_end row) r.deadline l (omega arith) (sym met ∙ y))
+deadline_says m ps h None r asked b e d l s f y = absurd (grind arith)

@@ -1,3 +1,4 @@
 pub mod Answers
 pub mod Wording
 pub mod Guaranteeing
+pub mod Numbers

@@ -5,7 +5,7 @@ use Rattle.std.proofs.lemmas.Bool.{cases_eq, eqb-true, ne_eqb}
 use Rattle.tasks.specs.Bounds.{Bounded}
 use Rattle.tasks.specs.Sets.{member, excluding, members_from, members}
 use Rattle.tasks.specs.declared.row.Row.{Row}
-use Rattle.tasks.proofs.Members.{members_odd, members_even}
+use Rattle.tasks.proofs.Members.{parity, members_odd, members_even}
 use Rattle.tasks.proofs.Sets.{member_zero, member_suc, member_excluding, excluding_zero, excluding_suc, and_true}
 use Rattle.demand.specs.Demand.{share, interference, demand}
 use Rattle.demand.specs.declared.mode.Mode.{Mode}
@@ -13,9 +13,6 @@ use Rattle.demand.specs.declared.mode.Mode.TheVariants.{Normal}
 use Rattle.demand.proofs.Rounding.{ceil_pos}
 use Rattle.tests.specs.Rules.{section_at, section_if_below, blocking}
 use Rattle.tests.specs.Places.{largest_one}
-
-parity : (h : ℕ) → (h % 2 ≡ 1) ⊎ (h % 2 ≡ 0)
-parity h = grind arith
 
 -- the shares of a set are the share of one member and those of the others
 module _ (m : Mode) (ps : List (Option Row)) (t : ℕ) where

@@ -7,15 +7,8 @@ use Rattle.demand.specs.declared.mode.Mode.TheVariants.{Normal, Abnormal}
 use Rattle.schedulability.specs.Laws.{Meaning}
 use Rattle.schedulability.specs.Layers.{both, strictly}
 use Rattle.schedulability.specs.Proper.{Proper, guarded}
-use Rattle.schedulability.specs.declared.pair.Pair.{Pair}
-use Rattle.schedulability.specs.declared.strict_only.StrictOnly.{StrictOnly}
 use Rattle.tests.specs.Rules.{responds}
 use Rattle.tests.specs.Words.{Served}
-use Rattle.tests.specs.declared.response.InTime.{InTime}
-
--- what a pair of one mode and strict-only over another means
-abbrev pub composed : Pair InTime (StrictOnly InTime) → Meaning
-composed p = guarded (both (guarded (responds p.first.mode)) (guarded (strictly (guarded (responds p.second.below.mode)))))
 
 -- the normal test, and for a strict task the abnormal test too
 abbrev pub guaranteed : Meaning

@@ -1,14 +1,13 @@
 -- The four tests keep both laws. Assumes nothing.
-use Rattle.std.specs.Prelude.{◌≡◌, ℕ, zero, suc, ◌+◌, ◌-◌, ◌^◌, ◌<◌, ◌≤◌, Bool, true, false, cond, ◌||◌, List, [], ◌∷◌, is_some, Some, None, Option, ◌==◌, ◌≢◌, nat_le, slice_index_or, slice_set, refl}
+use Rattle.std.specs.Prelude.{◌≡◌, ℕ, zero, suc, ◌+◌, ◌-◌, ◌^◌, ◌≤◌, Bool, true, false, cond, ◌||◌, List, [], ◌∷◌, None, Option, ◌==◌, ◌≢◌, nat_le, slice_index_or, slice_set, refl}
 use Rattle.std.proofs.Common.{le_trans, le_of_eq, add-le-add, sym, ap, ◌∙◌, subst, inl, inr, arith}
-use borrow.Author.Tests.{clash}
-use Rattle.std.proofs.lemmas.List.{get_or-set_other, get_or_past}
-use Rattle.std.proofs.lemmas.Bool.{leb-true, le-leb, cases_eq, cases_lt, and_parts, cond-false}
+use Rattle.std.proofs.lemmas.List.{get_or-set_other}
+use Rattle.std.proofs.lemmas.Bool.{leb-true, le-leb, cases_eq, and_parts, cond-false}
 use Rattle.tasks.specs.Changes.{Emptied}
-use Rattle.tasks.specs.Orders.{in_use}
 use Rattle.tasks.specs.Sets.{member, excluding}
 use Rattle.tasks.specs.declared.row.Row.{Row}
 use Rattle.tasks.specs.declared.table.Table.{Table}
+use Rattle.tasks.proofs.Places.{some_row, on_table}
 use Rattle.tasks.proofs.Sets.{member_excluding}
 use Rattle.demand.specs.Demand.{demand, search_end}
 use Rattle.demand.specs.Present.{some_up_to, present}
@@ -53,22 +52,14 @@ load_removal limit =
 some_less : (p q : ℕ → ℕ) (end : ℕ) → ((t : ℕ) → 1 ≤ t → q t ≤ p t) → some_up_to (λ t. nat_le (p t) t) end ≡ true → some_up_to (λ t. nat_le (q t) t) end ≡ true
 some_less p q end l y = let f = some_found (λ t. nat_le (p t) t) end y in some_at (λ t. nat_le (q t) t) end f.0 f.1 f.2 (le-leb _ _ (le_trans (l f.0 f.1) (leb-true _ _ f.3)))
 
--- a place in use holds a row
-used : (o : Option Row) → is_some o ≡ true → (r : Row) × (o ≡ Some r)
-used (Some r) e = (r, refl)
-used None e = absurd (clash e)
-
-in_use_below : (t : Table) (j : ℕ) → in_use t.places j ≡ true → j < 32
-in_use_below t j e = elim (cases_lt j 32) [ inl l ↦ l | inr l ↦ absurd (clash (sym (ap is_some (get_or_past t.places j None (omega (arith, t.full)))) ∙ e)) ]
-
 pub sections_raise : Raise (guarded unblocked)
 sections_raise = guarded_raise unblocked (λ t k h j p. of_task_at (slice_index_or t.places k None) _ _ (λ r _ y. by_member t k h j r p y (member h j) refl)) where
   by_member : (t : Table) (k h j : ℕ) (r : Row) → Proper t k h → some_up_to (λ n. nat_le (demand Normal t.places r h n + blocking t.places k h) n) (search_end r) ≡ true → (b : Bool) → member h j ≡ b
       → some_up_to (λ n. nat_le (demand Normal t.places r (excluding h j) n + blocking t.places k (excluding h j)) n) (search_end r) ≡ true
   by_member t k h j r p y true e =
-      let s = used (slice_index_or t.places j None) (p.2 j e) in
+      let s = some_row (slice_index_or t.places j None) (p.2 j e) in
       some_less (λ n. demand Normal t.places r h n + blocking t.places k h) (λ n. demand Normal t.places r (excluding h j) n + blocking t.places k (excluding h j)) (search_end r)
-      (λ n l. raise_asks_less t.places r s.0 k h j n (in_use_below t j (p.2 j e)) s.1 (t.times j s.0 s.1, t.window j s.0 s.1, t.section j s.0 s.1) e l) y
+      (λ n l. raise_asks_less t.places r s.0 k h j n (on_table t j (p.2 j e)) s.1 (t.times j s.0 s.1, t.window j s.0 s.1, t.section j s.0 s.1) e l) y
   by_member t k h j r p y false e =
       subst (λ g. some_up_to (λ n. nat_le (demand Normal t.places r g n + blocking t.places k g) n) (search_end r) ≡ true) (sym (cond-false (member h j) (h - 2 ^ j) h e)) y
 

@@ -2,9 +2,10 @@
 ghost use Rattle.std.specs.Prelude.{◌≡◌, Decides};
 ghost use Rattle.demand.specs.declared.mode.Mode.TheVariants.{Normal, Abnormal};
 ghost use Rattle.schedulability.specs.Laws.{Alike};
-ghost use Rattle.tests.specs.Guarantee.{composed, guaranteed, Guaranteed};
+ghost use Rattle.tests.specs.Guarantee.{guaranteed, Guaranteed};
 
 use crate::response::InTime;
+use demand::mode::Mode;
 use schedulability::pair::Pair;
 use schedulability::strict_only::StrictOnly;
 use schedulability::test::Test;
@@ -14,12 +15,12 @@ use tasks::table::Table;
 // Without faults every task is in time, and with fault recovery every strict one.
 pub fn guarantee() -> Pair<InTime, StrictOnly<InTime>>
     ensures made { (result.first.mode ≡ Normal) × (result.second.below.mode ≡ Abnormal) }
-    ensures means { Alike (composed result) guaranteed }
+    ensures means { Alike (⟦<Pair<InTime, StrictOnly<InTime>> as Test>⟧.says result) guaranteed }
 {
     Pair {
-        first: InTime::normal(),
+        first: InTime::new(Mode::Normal),
         second: StrictOnly {
-            below: InTime::abnormal(),
+            below: InTime::new(Mode::Abnormal),
         },
     }
 }

@@ -6,15 +6,13 @@ ghost use Rattle.tests.specs.Words.{LoadSays};
 ghost use Rattle.tests.specs.Rules.{load, loaded, utilization};
 ghost use Rattle.tests.specs.Keeps.{load_raise, load_removal};
 
+use demand::mode::WHOLE;
 use schedulability::fault::TestFault;
 use schedulability::proper::is_proper;
 use schedulability::test::Test;
 use tasks::record::LAST;
 use tasks::set::TaskSet;
 use tasks::table::Table;
-
-// The whole processor, in the parts that a load is counted in.
-const WHOLE: u32 = 1_000_000;
 
 #[derive(Clone, Copy)]
 pub struct Load {
@@ -26,7 +24,7 @@ impl Load {
     pub fn new(limit: u32) -> Result<Load, TestFault>
         ensures { MatchResult result (λ v. (v.limit ≡ limit) × (1 ≤ limit) × (limit ≤ 1000000)) (λ f. (f ≡ TestFault.Limit limit) × ((1 ≤ limit) × (limit ≤ 1000000) → ⊥)) }
     {
-        if limit < 1 || limit > WHOLE {
+        if limit < 1 || limit as u64 > WHOLE {
             return Err(TestFault::Limit(limit));
         }
         Ok(Load { limit })
@@ -53,19 +51,15 @@ impl Test for Load {
 fn load_of(table: &Table) -> u64
     ensures { result ≡ load table.now.places }
 {
-    let mut sum = 0;
-    for number in 0..=LAST {
-        sum += share_of(table, number);
-    }
-    sum
+    (0..=LAST).map(|number| share_of(table, number)).sum()
 }
 
+#[tactic(auto, using(demand::proofs::Rounding::ceil_quotient))]
 fn share_of(table: &Table, number: u8) -> u64
     ensures value { result ≡ utilization (slice_index_or table.now.places number None) }
     ensures bound { result ≤ 1000000000000 }
 {
-    match table.row(number) {
-        Some(row) => (row.abnormal as u64 * WHOLE as u64).div_ceil(row.period as u64),
-        None => 0,
-    }
+    table.row(number).map_or(0, |row| {
+        (row.abnormal as u64 * WHOLE).div_ceil(row.period as u64)
+    })
 }

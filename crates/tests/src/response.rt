@@ -1,6 +1,5 @@
 // Says yes when the response time in a mode is present.
 ghost use Rattle.std.specs.Prelude.{◌≡◌, Decides};
-ghost use Rattle.demand.specs.declared.mode.Mode.TheVariants.{Normal, Abnormal};
 ghost use Rattle.schedulability.specs.Laws.{Alike};
 ghost use Rattle.schedulability.specs.Proper.{guarded};
 ghost use Rattle.tests.specs.Words.{InTimeSays};
@@ -20,20 +19,11 @@ pub struct InTime {
 }
 
 impl InTime {
-    // The normal test.
-    pub fn normal() -> InTime
-        ensures { result.mode ≡ Normal }
+    // The normal test or the abnormal one.
+    pub fn new(mode: Mode) -> InTime
+        ensures { result.mode ≡ mode }
     {
-        InTime { mode: Mode::Normal }
-    }
-
-    // The abnormal test.
-    pub fn abnormal() -> InTime
-        ensures { result.mode ≡ Abnormal }
-    {
-        InTime {
-            mode: Mode::Abnormal,
-        }
+        InTime { mode }
     }
 }
 
@@ -53,7 +43,7 @@ impl Test for InTime {
     }
 }
 
-// Whether some time up to the deadline serves. The deadline itself is asked first: it costs one sum, and most tasks that are in time
+// Whether some time up to the deadline serves; asked with the parts of the test's own question. The deadline itself is asked first: it costs one sum, and most tasks that are in time
 // are served by it.
 fn is_in_time(table: &Table, task: u8, above: TaskSet, mode: Mode) -> bool
     ensures { result ≡ responds mode table.now task above.bits }
@@ -61,10 +51,6 @@ fn is_in_time(table: &Table, task: u8, above: TaskSet, mode: Mode) -> bool
     let Some(row) = table.row(task) else {
         return false;
     };
-    if let Some(asked) = demand(table, task, above, mode, row.deadline)
-        && asked <= row.deadline as u64
-    {
-        return true;
-    }
-    response(table, task, above, mode).is_some()
+    demand(table, task, above, mode, row.deadline).is_some_and(|asked| asked <= row.deadline as u64)
+        || response(table, task, above, mode).is_some()
 }

@@ -29,15 +29,19 @@ impl Test for Sections {
         ensures same { Alike (guarded unblocked) (guarded unblocked) }
         ensures means { Decides result (SectionsSays table.now task above.bits) }
     {
-        if !is_proper(table, task, above) {
-            return false;
-        }
-        let Some(row) = table.row(task) else {
-            return false;
-        };
-        let fixed = row.normal + longest_section(table, task, above);
-        least_covering(table, above, Mode::Normal, fixed, row.deadline).is_some()
+        is_proper(table, task, above) && is_unblocked(table, task, above)
     }
+}
+
+// Whether some time up to the deadline serves behind the longest section.
+fn is_unblocked(table: &Table, task: u8, above: TaskSet) -> bool
+    ensures { result ≡ unblocked table.now task above.bits }
+{
+    let Some(row) = table.row(task) else {
+        return false;
+    };
+    let fixed = row.normal + longest_section(table, task, above);
+    least_covering(table, above, Mode::Normal, fixed, row.deadline).is_some()
 }
 
 // The longest section of the tasks below: on the table, not the task itself and not above it.
@@ -45,11 +49,10 @@ fn longest_section(table: &Table, task: u8, above: TaskSet) -> u32
     ensures value { result ≡ blocking table.now.places task above.bits }
     ensures bound { result ≤ 1000000 }
 {
-    let mut longest: u32 = 0;
-    for number in 0..=LAST {
-        longest = longest.max(section_below(table, number, task, above));
-    }
-    longest
+    (0..=LAST)
+        .map(|number| section_below(table, number, task, above))
+        .max()
+        .unwrap_or(0)
 }
 
 fn section_below(table: &Table, number: u8, task: u8, above: TaskSet) -> u32
@@ -59,8 +62,5 @@ fn section_below(table: &Table, number: u8, task: u8, above: TaskSet) -> u32
     if number == task || above.contains(number) {
         return 0;
     }
-    match table.row(number) {
-        Some(row) => row.section,
-        None => 0,
-    }
+    table.row(number).map_or(0, |row| row.section)
 }

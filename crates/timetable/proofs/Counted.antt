@@ -1,9 +1,10 @@
 -- Entries that count, and entries that do not. Assumes nothing.
-use Rattle.std.proofs.Common.{◌≡◌, ℕ, ◌+◌, ◌<◌, ◌≤◌, Bool, true, false, cond, ◌&&◌, ◌||◌, eqb, ltb, leb, ◌≢◌, List, [], ◌∷◌, sum_by, inl, inr, arith}
+use Rattle.std.proofs.Common.{◌≡◌, ℕ, ◌+◌, ◌<◌, ◌≤◌, true, cond, ◌&&◌, ◌||◌, eqb, ltb, leb, ◌≢◌, List, [], ◌∷◌, sum_by, inl, inr, arith}
 use Rattle.std.proofs.lemmas.List.Sums.{sum_by-cons}
 use Rattle.std.proofs.lemmas.Bool.{cases_lt}
 use Rattle.std.proofs.lemmas.Bool.Decides.{nat_tests}
 use Rattle.std.specs.List.{AllByRecursion}
+pub use Rattle.tasks.proofs.Few.{at_most_one}
 use Rattle.timetable.specs.Drawing.{is_for}
 
 pub is_for_it : (j i : ℕ) → 1 ≤ is_for j i → i ≡ j
@@ -15,10 +16,6 @@ for_own i = grind (arith, nat_tests)
 pub for_other : (j i : ℕ) → j ≢ i → is_for j i ≡ 0
 for_other j i d = grind (arith, nat_tests)
 
-pub at_most_one : (b : Bool) → cond b 1 0 ≤ 1
-at_most_one true = omega arith
-at_most_one false = omega arith
-
 pub one_more : (j i : ℕ) → is_for j i + cond (ltb j i) 1 0 ≡ cond (ltb j (i + 1)) 1 0
 one_more j i = grind (arith, nat_tests)
 
@@ -28,9 +25,6 @@ not_lower p q r s e l = grind (arith, nat_tests)
 
 pub not_later : (p q r s : ℕ) → (ltb p q || (eqb p q && leb r s)) ≡ true → p ≡ q → s < r → ⊥
 not_later p q r s e l m = grind (arith, nat_tests)
-
-pub not_after : (r s : ℕ) → leb r s ≡ true → r ≤ s
-not_after r s e = grind (arith, nat_tests)
 
 module _ {X : Type 0} where
   pub all_both : (P Q R : X → Type 0) → ((x : X) → P x → Q x → R x) → (xs : List X) → AllByRecursion P xs → AllByRecursion Q xs → AllByRecursion R xs

@@ -16,7 +16,6 @@ use Rattle.std.proofs.lemmas.List.Sums.{sum_by-cons}
 use Rattle.std.proofs.lemmas.Bool.{cases_eq, cases_lt}
 use Rattle.std.specs.List.Sorted.{IsPermutation}
 use Rattle.std.specs.List.{AllByRecursion}
-use Rattle.tasks.specs.Listed.{listed}
 use Rattle.tasks.specs.declared.row.Row.{Row}
 use Rattle.tasks.specs.declared.standing.Standing.{Standing}
 use Rattle.timetable.proofs.Counted.{is_for_it, for_own, for_other, not_lower, not_later, all_both, some_counts, none_counts}
@@ -35,12 +34,12 @@ waits_for j w = is_for j w.index
 abbrev pub Ahead : Waiting → Waiting → Type 0
 Ahead w y = by_place w y ≡ true
 
-module _ (s : Standing) (js : List Job) (law : JobsLawful s.table.places js) (σ : Schedule) (sch : IsSchedule (listed s.order) js σ) where
+module _ (s : Standing) (js : List Job) (law : JobsLawful s.table.places js) (σ : Schedule) (sch : IsSchedule s.order js σ) where
   abbrev ps : List (Option Row)
   ps = s.table.places
 
   abbrev o : List ℕ
-  o = listed s.order
+  o = s.order
 
   -- ---- a release
 
@@ -184,16 +183,6 @@ module _ (s : Standing) (js : List Job) (law : JobsLawful s.table.places js) (σ
           told = λ j l z. let old = b.told j l (omega (arith, tallies j)) in (old.0, omega (arith, old.1));
         }
 
-  -- ---- a stretch in which nothing runs
-
-  pub idled : (fs : List Finish) (t : ℕ) (cs : List Coming) → Between ps o js σ fs t cs [] → (e : ℕ) → AllByRecursion (λ (c : Coming). e ≤ c.release) cs → t ≤ e → Between ps o js σ fs e cs []
-  idled fs t cs b e later more = record {
-    coming = all_both (Comes js t) (λ c. e ≤ c.release) (Comes js e) (λ c x y. (x.0, x.1, y)) cs b.coming later;
-    waiting = tt;
-    once = b.once;
-    told = λ j l z. let old = b.told j l z in (old.0, omega (arith, old.1));
-  }
-
   -- ---- the start
 
   pub started : (fs : List Finish) (cs : List Coming) → AllByRecursion (Comes js 0) cs → ((j : ℕ) → sum_by (λ (c : Coming). is_for j c.index) cs ≤ 1) → ((j : ℕ) → j < length js → 1 ≤ sum_by (λ (c : Coming). is_for j c.index) cs)
@@ -221,7 +210,7 @@ module _ (s : Standing) (js : List Job) (law : JobsLawful s.table.places js) (fs
   next_waiting rest w out few =
       let is = one_schedule s js law in
       let σ = is.0 in
-      let a = (all_shuffled (Waits (listed s.order) js σ t) ws (w ∷ rest) out (b σ is.1).waiting).0 in
+      let a = (all_shuffled (Waits s.order js σ t) ws (w ∷ rest) out (b σ is.1).waiting).0 in
       let row = row_of s.table.places (job_at js w.index).task (law w.index a.0).0 in
       let times = s.table.times (job_at js w.index).task row.0 row.1 in
       let far = not_far s js law σ is.1 w.index t a.0 (omega (arith, a.4, a.5)) in

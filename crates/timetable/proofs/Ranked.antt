@@ -1,18 +1,22 @@
--- The place of a task in an order, found by a walk. Assumes nothing.
-use Rattle.std.proofs.Common.{◌≡◌, ℕ, zero, suc, ◌<◌, eqb, List, [], ◌∷◌, length, get_or, sym, refl, ap, ◌∙◌, arith}
+-- The place of a task in an order, as the position at which it is found. Assumes nothing.
+use Rattle.std.proofs.Common.{◌≡◌, ℕ, suc, ◌+◌, Bool, true, false, cond, not, eqb, ltb, List, [], ◌∷◌, length, unwrap_or, refl, ap, ◌∙◌, inl, inr, arith}
 use Rattle.schedule.specs.Schedule.{place}
-use Rattle.std.proofs.lemmas.Bool.{cond-true, cond-false, eq-eqb, ne_eqb}
+use Rattle.std.proofs.lemmas.Bool.{cases_lt, cond-true, cond-false, lt-ltb, le-ltb}
+use Rattle.std.proofs.lemmas.List.Sums.{prefix_len-le-length}
+use Rattle.std.specs.List.{position, position_or_len}
 
-place_next : (x n : ℕ) (xs : List ℕ) → (x ≡ n → ⊥) → place (x ∷ xs) n ≡ suc (place xs n)
-place_next x n xs d = cond-false {A = ℕ} (eqb x n) 0 (suc (place xs n)) (ne_eqb x n d)
+-- how far the walk to it goes
+walked : (n : ℕ) (xs : List ℕ) → position_or_len (λ x. eqb x n) xs ≡ place xs n
+walked n [] = refl
+walked n (x ∷ xs) = turned (eqb x n) _ _ (walked n xs)
+  where
+    turned : (b : Bool) (k m : ℕ) → k ≡ m → cond (not b) (1 + k) 0 ≡ cond b 0 (suc m)
+    turned true k m e = refl
+    turned false k m e = omega arith
 
--- the task stands at i, and nowhere before
-pub place_at : (xs : List ℕ) (n i : ℕ) → i < length xs → ((k : ℕ) → k < i → get_or xs k 0 ≡ n → ⊥) → get_or xs i 0 ≡ n → i ≡ place xs n
-place_at [] n i l f e = absurd (omega arith)
-place_at (x ∷ xs) n zero l f e = sym (cond-true {A = ℕ} (eqb x n) 0 (suc (place xs n)) (eq-eqb x n e))
-place_at (x ∷ xs) n (suc i) l f e = ap suc (place_at xs n i (omega arith) (λ k m. f (suc k) (omega arith)) e) ∙ sym (place_next x n xs (f 0 (omega arith)))
-
--- the task is not in the order
-pub place_past : (xs : List ℕ) (n : ℕ) → ((k : ℕ) → k < length xs → get_or xs k 0 ≡ n → ⊥) → length xs ≡ place xs n
-place_past [] n f = refl
-place_past (x ∷ xs) n f = ap suc (place_past xs n (λ k m. f (suc k) (omega arith))) ∙ sym (place_next x n xs (f 0 (omega arith)))
+-- of a task that is not in the order, all stand before it
+pub placed : (n : ℕ) (xs : List ℕ) → unwrap_or (position (λ x. eqb x n) xs) (length xs) ≡ place xs n
+placed n xs = elim (cases_lt (position_or_len (λ x. eqb x n) xs) (length xs)) [
+  | inl l ↦ ap (λ o. unwrap_or o (length xs)) (cond-true (ltb (position_or_len (λ x. eqb x n) xs) (length xs)) _ _ (lt-ltb _ _ l)) ∙ walked n xs
+  | inr l ↦ ap (λ o. unwrap_or o (length xs)) (cond-false (ltb (position_or_len (λ x. eqb x n) xs) (length xs)) _ _ (le-ltb _ _ l)) ∙ omega (arith, prefix_len-le-length (λ x. not (eqb x n)) xs, walked n xs)
+]

@@ -5,7 +5,6 @@ use Rattle.schedule.specs.Schedule.{Schedule, served, place, IsSchedule, Ends}
 use Rattle.schedule.specs.declared.job.Finish.{Finish}
 use Rattle.schedule.specs.declared.job.Job.{Job}
 use Rattle.std.specs.List.{AllByRecursion}
-use Rattle.tasks.specs.Listed.{listed}
 use Rattle.tasks.specs.declared.row.Row.{Row}
 use Rattle.tasks.specs.declared.standing.Standing.{Standing}
 use Rattle.timetable.specs.declared.entry.Coming.{Coming}
@@ -23,7 +22,7 @@ Finishes ps js σ fs = (j : ℕ) → j < length js → FinishOf ps js σ j (slic
 
 -- a finish list tells the schedule that the standing order gives the jobs
 abbrev pub Drawn : Standing → List Job → List Finish → Type 0
-Drawn s js fs = (σ : Schedule) × IsSchedule (listed s.order) js σ × Finishes s.table.places js σ fs
+Drawn s js fs = (σ : Schedule) × IsSchedule s.order js σ × Finishes s.table.places js σ fs
 
 -- ---- between events
 
@@ -55,4 +54,4 @@ pub record Between (ps : List (Option Row)) (o : List ℕ) (js : List Job) (σ :
 
 -- the same in the schedule of the jobs, of which there is one
 abbrev pub Reached : Standing → List Job → List Finish → ℕ → List Coming → List Waiting → Type 0
-Reached s js fs t cs ws = (σ : Schedule) → IsSchedule (listed s.order) js σ → Between s.table.places (listed s.order) js σ fs t cs ws
+Reached s js fs t cs ws = (σ : Schedule) → IsSchedule s.order js σ → Between s.table.places s.order js σ fs t cs ws

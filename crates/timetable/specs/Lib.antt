@@ -2,3 +2,4 @@ pub mod Refusals
 pub mod Questions
 pub mod Ranking
 pub mod Drawing
+pub mod Workloads

@@ -5,7 +5,7 @@ ghost use Rattle.std.proofs.Common.{rules};
 use queue::rank::Rank;
 
 // A job that is not released yet. These wait by time.
-#[derive(Clone, Copy, PartialEq, Eq, Debug)]
+#[derive(Clone, Copy, PartialEq, Eq, Debug, Default)]
 pub struct Coming {
     pub release: u32,
     // in the job list
@@ -25,7 +25,7 @@ impl Rank for Coming {
 }
 
 // A released job that is not finished. These wait by the place of their task in the order, and those of one task by release.
-#[derive(Clone, Copy, PartialEq, Eq, Debug)]
+#[derive(Clone, Copy, PartialEq, Eq, Debug, Default)]
 pub struct Waiting {
     pub place: usize,
     pub release: u32,
@@ -43,6 +43,6 @@ impl Rank for Waiting {
     ghost transitive = { Prim.search rules };
 
     fn may_precede(&self, other: &Waiting) -> bool {
-        self.place < other.place || self.place == other.place && self.release <= other.release
+        (self.place, self.release) <= (other.place, other.release)
     }
 }

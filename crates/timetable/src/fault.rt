@@ -2,16 +2,21 @@
 ghost use Rattle.timetable.specs.Refusals.{timetable_tells};
 
 use tasks::refusal::{Fault, Layer, Refusal};
+use thiserror::Error;
 
-#[derive(Clone, Copy, PartialEq, Eq, Debug)]
+#[derive(Clone, Copy, PartialEq, Eq, Debug, Error)]
 pub enum TimetableFault {
-    // 8: more than 4,096 jobs, or a list shorter than the job list; with the length of the job list
+    // 8, with the length of the job list
+    #[error("{0} jobs are more than 4,096, or more than one of the lists has room for")]
     Space(usize),
-    // 9: the task of the job with this index is not on the roster
+    // 9, like the next two with the index of the job
+    #[error("the task of job {0} is not on the roster")]
     Task(usize),
-    // 10: its release is above 1,000,000,000, or its length is not from 1 to A
+    // 10
+    #[error("the release of job {0} is above 1,000,000,000, or its length is not from 1 to A")]
     Times(usize),
-    // 11: its release is less than T from that of a job of its task listed before it
+    // 11
+    #[error("the release of job {0} is less than T from that of a job of its task listed before it")]
     Distance(usize),
 }
 
@@ -25,11 +30,6 @@ impl Fault for TimetableFault {
             TimetableFault::Times(index) => (10, *index),
             TimetableFault::Distance(index) => (11, *index),
         };
-        Refusal {
-            number,
-            layer: Layer::Timetable,
-            place,
-            innermost: number,
-        }
+        Refusal::new(number, Layer::Timetable, place)
     }
 }

@@ -15,7 +15,8 @@ pub const MOST_JOBS: usize = 4_096;
 // The last tick in which a job may be released.
 pub const LAST_RELEASE: u32 = 1_000_000_000;
 
-// Whether a timetable can be drawn of these jobs with a finish list and two working lists of these lengths; if not, the first question that is answered no.
+// Whether a timetable can be drawn of these jobs with a finish list and two working lists of these lengths; if not, the first question that
+// is answered no.
 pub fn check(
     standing: &Standing,
     jobs: &[Job],
@@ -30,9 +31,10 @@ pub fn check(
         return Err(TimetableFault::Space(jobs.len()));
     }
     for (i, job) in jobs.iter().enumerate() {
-        let Some(row) = standing.table().row(job.task) else {
-            return Err(TimetableFault::Task(i));
-        };
+        let row = standing
+            .table()
+            .row(job.task)
+            .ok_or(TimetableFault::Task(i))?;
         if !is_in_bounds(row, *job) {
             return Err(TimetableFault::Times(i));
         }
@@ -43,7 +45,8 @@ pub fn check(
     Ok(())
 }
 
-// Whether there are not too many jobs, and the lists are as long as theirs or longer.
+// Whether there are not too many jobs, and the lists are as long as theirs or longer. The three lengths stay numbers, since each is asked
+// for once, here: a struct would be filled for one line.
 fn has_room(jobs: usize, finishes: usize, coming: usize, waiting: usize) -> bool
     ensures { Decides result (Room jobs finishes coming waiting) }
 {
@@ -61,12 +64,8 @@ fn is_in_bounds(row: Row, job: Job) -> bool
 fn is_spaced(row: Row, job: Job, earlier: &[Job]) -> bool
     ensures { Decides result ((e : ℕ) → e < length earlier.now → (job_at earlier.now e).task ≡ job.task → Apart row (job_at earlier.now e) job) }
 {
-    for other in earlier {
-        if other.task == job.task && other.release.abs_diff(job.release) < row.period {
-            return false;
-        }
-    }
-    true
+    earlier.iter().all(|other| other.task != job.task
+        || row.period <= other.release.abs_diff(job.release))
 }
 
 // A job list is accepted, or refused by one question. Holds a contract; there is nothing to run.

@@ -1,5 +1,5 @@
 use Rattle.std.proofs.Common.{◌+◌, get_or, take, drop, sym, refl, ap, ◌∙◌, subst, arith}
-use Rattle.std.proofs.lemmas.List.{take_all, take_more, length-take-le}
+use Rattle.std.proofs.lemmas.List.{take_more, length-take-le}
 use Rattle.priority.specs.Passing.{Yes, Passes}
 use Rattle.priority.proofs.Judging.{each_none, each_more, above_more, at_place}
 use Rattle.priority.proofs.judge.judge.Goals as goal
@@ -36,12 +36,3 @@ loop-i-preserved g c =
       subst (Passes (says c.args.test.now) t) (sym (take_more o i 0 l)) (each_more (Yes (says c.args.test.now) t) (take i o) k inv.1 y),
       λ u j h. c.passes.ensures.same u j h ∙ inv.2 u j h,
     )
-
-pub returns : goal.returns
-returns g c =
-    let o = c.args.order.now in
-    let inv = c.loop-i.invariant in
-    record {
-      value = (c.if-not-is_listed_by.ensures.0 refl, subst (Passes (g.T.Test.says c.args.test.now) c.args.table.now) (take_all c.loop-i.i o (omega arith)) inv.1);
-      same = inv.2;
-    }

@@ -1,10 +1,6 @@
-use Rattle.priority.proofs.Walks.{walked_on, walked_by}
+use Rattle.std.proofs.Common.{rules, ap, arith}
+use Rattle.priority.proofs.Walks.{first_tried}
 use Rattle.priority.proofs.plan.last_due.Goals as goal
 
-pub loop-number-preserved-then-due-longest : goal.loop-number-preserved-then-due-longest
-loop-number-preserved-then-due-longest c =
-    walked_on c.args.table.now c.args.tasks.bits c.loop-number.rest.bits _ _ c.in-Some.ensures c.loop-number.last c.loop-number.longest _ c.loop-number.invariant c.deadline_of-due.ensures c.if-due-longest.true
-
-pub loop-number-preserved : goal.loop-number-preserved
-loop-number-preserved c =
-    walked_by c.args.table.now c.args.tasks.bits c.loop-number.rest.bits _ _ c.in-Some.ensures c.loop-number.last c.loop-number.longest _ c.loop-number.invariant c.deadline_of-due.ensures c.if-due-longest.false
+pub returns : goal.returns
+returns c = first_tried _ c.args.table.now _ (λ x k f h. search rules) c.args.tasks.bits c.into_iter.result c.max_by_key.result (omega arith) (ap (λ s. s.bits) c.into_iter.ensures.into_iter_gives) c.max_by_key.ensures.ran

@@ -1,13 +1,12 @@
-use Rattle.std.proofs.Common.{[], ◌∷◌, ◌++◌, sym, ◌∙◌, subst, arith}
-use Rattle.std.proofs.lemmas.List.{length-append, length-take-le}
+use Rattle.std.proofs.Common.{[], ◌∷◌, ◌++◌, length, sym, ◌∙◌, subst, arith}
+use Rattle.std.proofs.lemmas.List.{length-append}
 use Rattle.std.proofs.lemmas.Bool.{cond-true, lt-ltb, eqb-true, eqb-false}
-use Rattle.tasks.specs.Listed.{listed}
 use Rattle.tasks.specs.Sets.{excluding}
 use Rattle.tasks.proofs.Sets.{below_pow}
 use Rattle.priority.specs.Fillings.{Filled, LeftOver}
 use Rattle.priority.specs.Plans.{FirstYes, IsPlan}
 use Rattle.priority.proofs.Filling.{filled_more}
-use Rattle.priority.proofs.Planning.{some_member, filled_few, first_alike, stuck_alike, filled_plan, plan_same, planned_left, left_same, left_no_order}
+use Rattle.priority.proofs.Planning.{some_member, filled_few, first_alike, filled_plan, plan_same, planned_left, left_same, left_no_order}
 use Rattle.priority.proofs.plan.plan.Goals as goal
 
 pub loop-task-preserved : goal.loop-task-preserved
@@ -20,11 +19,11 @@ loop-task-preserved g c =
     let l = c.loop-task.left.bits in
     let P = FirstYes (says c.args.test.now) t in
     let v = c.in-Some.ensures.value in
-    let f = filled_more P a (listed u) l k c.loop-task.invariant.0 v.0 (first_alike (says c.loop-task.test) (says c.args.test.now) c.loop-task.invariant.1 t (excluding l k) k v.1) in
-    let few = filled_few P t a c.tasks-left.ensures (listed u ++ k ∷ []) (excluding l k) f in
-    let room = c.push.ensures.room ∙ lt-ltb u.len 32 (omega (arith, few, length-append (listed u) (k ∷ []), length-take-le u.len u.numbers (omega (arith, u.full, u.few)))) in
-    let pushed = c.push.ensures.listed ∙ cond-true _ (listed u ++ k ∷ []) (listed u) room in (
-      subst (λ xs. Filled P a xs c.without-left.result.bits) (sym pushed) (subst (Filled P a (listed u ++ k ∷ [])) (sym c.without-left.ensures.bits) f),
+    let f = filled_more P a u l k c.loop-task.invariant.0 v.0 (first_alike (says c.loop-task.test) (says c.args.test.now) c.loop-task.invariant.1 t (excluding l k) k v.1) in
+    let few = filled_few P t a c.tasks-left.ensures (u ++ k ∷ []) (excluding l k) f in
+    let room = c.push.ensures.room ∙ lt-ltb (length u) 32 (omega (arith, few, length-append u (k ∷ []))) in
+    let pushed = c.push.ensures.pushed ∙ cond-true _ (u ++ k ∷ []) u room in (
+      subst (λ xs. Filled P a xs c.without-left.result.bits) (sym pushed) (subst (Filled P a (u ++ k ∷ [])) (sym c.without-left.ensures.bits) f),
       λ s j h. c.lowest.ensures.same s j h ∙ c.loop-task.invariant.1 s j h,
     )
 
@@ -35,8 +34,7 @@ returns-then-not-is_empty g c =
     let t = c.args.table.now in
     let l = c.loop-task.left.bits in
     let raise = g.met.T.Test.raise test in
-    let stuck = stuck_alike (g.T.Test.says c.loop-task.test) says c.loop-task.invariant.1 t l c.in_default.ensures.value in
-    let left = planned_left says t c.tasks-left.result.bits c.tasks-left.ensures (listed c.loop-task.upwards) l c.loop-task.invariant.0 stuck in
+    let left = planned_left says t c.tasks-left.result.bits c.tasks-left.ensures _ c.loop-task.invariant.1 c.loop-task.upwards l c.loop-task.invariant.0 c.in_default.ensures.value in
     let some = some_member l l (below_pow l) (eqb-false l 0 (sym c.if-not-is_empty.ensures.bits)) in
     let none = left_no_order says t raise l some.0 left some.1 in
     record {
@@ -54,15 +52,14 @@ returns g c =
     let t = c.args.table.now in
     let a = c.tasks-left.result.bits in
     let l = c.loop-task.left.bits in
-    let us = listed c.loop-task.upwards in
+    let us = c.loop-task.upwards in
     let raise = g.met.T.Test.raise test in
     let none = eqb-true l 0 (sym c.if-not-is_empty.ensures.bits) in
     let full = subst (Filled (FirstYes says t) a us) none c.loop-task.invariant.0 in
-    let stuck = stuck_alike (g.T.Test.says c.loop-task.test) says c.loop-task.invariant.1 t l c.in_default.ensures.value in
-    let left = subst (LeftOver says t) none (planned_left says t a c.tasks-left.ensures us l c.loop-task.invariant.0 stuck) in
+    let left = subst (LeftOver says t) none (planned_left says t a c.tasks-left.ensures _ c.loop-task.invariant.1 us l c.loop-task.invariant.0 c.in_default.ensures.value) in
     record {
-      outcome = subst (IsPlan says t) (sym c.reversed.ensures.listed) (filled_plan says t a c.tasks-left.ensures us full);
-      only = λ p i. c.reversed.ensures.listed ∙ plan_same says t a c.tasks-left.ensures us p full i;
+      outcome = subst (IsPlan says t) (sym c.reversed.ensures) (filled_plan says t a c.tasks-left.ensures us full);
+      only = λ p i. c.reversed.ensures ∙ plan_same says t a c.tasks-left.ensures us p full i;
       left = left;
       always_left = λ m v. left_same says t raise m 0 v left;
       same = λ s j h. c.lowest.ensures.same s j h ∙ c.loop-task.invariant.1 s j h;

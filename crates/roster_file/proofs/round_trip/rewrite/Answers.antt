@@ -1,7 +1,5 @@
-use Rattle.std.proofs.Common.{Err, sym, ap, ◌∙◌, subst}
+use Rattle.std.proofs.Common.{Err, ap, ◌∙◌}
 use Rattle.std.proofs.lemmas.Result.{err_from_is_err_and}
-use Rattle.tasks.specs.Listed.{listed}
-use Rattle.roster_file.specs.Layout.{Layout}
 use Rattle.roster_file.proofs.RoundTrips.{file_refused, unordered, written_again, space_short}
 use Rattle.roster_file.proofs.round_trip.rewrite.Goals as goal
 
@@ -14,7 +12,7 @@ returns-in_err-read c =
 
 pub returns-in_default : goal.returns-in_default
 returns-in_default c =
-    let kept = unordered c.args.file.now c.args.space.now c.read.new.table (listed c.read.new.order) c.in_ok-read.ensures.outcome c.in_default.ensures in
+    let kept = unordered c.args.file.now c.args.space.now c.read.new.table c.read.new.order c.in_ok-read.ensures.outcome c.in_default.ensures in
     record { rewritten = kept.rewritten; copied = kept.copied }
 
 pub returns-in_err-written : goal.returns-in_err-written
@@ -24,9 +22,8 @@ returns-in_err-written c =
     let r = c.from_residual-in_err-written.result in
     let p = err_from_is_err_and r c.from_residual-in_err-written.ensures.1 in
     let made = c.in-Some.ensures in
-    let layout = subst (λ o. Layout file s.table (listed o)) (sym made.1) (subst (λ t. Layout file t (listed c.read.new.order)) (sym made.0) c.in_ok-read.ensures.outcome) in
     let w = c.in_err-written.ensures in
-    let kept = space_short file c.args.space.now c.write.new.space s.table (listed s.order) r c.in_err-written.field-0.0 (p.1 ∙ ap Err p.2) layout w.written w.one_file in
+    let kept = space_short file c.args.space.now c.write.new.space s.table s.order r c.in_err-written.field-0.0 (p.1 ∙ ap Err p.2) (rw (made.0, made.1) c.in_ok-read.ensures.outcome) w.written w.one_file in
     record { rewritten = kept.rewritten; copied = kept.copied }
 
 pub returns : goal.returns
@@ -34,7 +31,6 @@ returns c =
     let file = c.args.file.now in
     let s = c.in-Some.standing in
     let made = c.in-Some.ensures in
-    let layout = subst (λ o. Layout file s.table (listed o)) (sym made.1) (subst (λ t. Layout file t (listed c.read.new.order)) (sym made.0) c.in_ok-read.ensures.outcome) in
     let w = c.in_ok-written.ensures in
-    let kept = written_again file c.args.space.now c.write.new.space s.table (listed s.order) c.in_ok-written.written layout w.written w.one_file in
+    let kept = written_again file c.args.space.now c.write.new.space s.table s.order c.in_ok-written.written (rw (made.0, made.1) c.in_ok-read.ensures.outcome) w.written w.one_file in
     record { rewritten = kept.rewritten; copied = kept.copied }

@@ -1,6 +1,5 @@
 use Rattle.std.proofs.Common.{sym, ◌∙◌, subst}
 use Rattle.std.proofs.lemmas.List.{take_at}
-use Rattle.tasks.specs.Listed.{listed}
 use Rattle.roster_file.specs.Layout.{Canonical}
 use Rattle.roster_file.specs.Writing.{assembled}
 use Rattle.roster_file.proofs.Canonical.{canonical, canonical_one}
@@ -11,7 +10,7 @@ pub returns : goal.returns
 returns c =
     let s = c.args.standing.now in
     let t = s.table in
-    let order = listed s.order in
+    let order = s.order in
     let file = assembled t order in
     let long = c.as_mut_slice.ensures.len in
     let all = put_all file c.as_mut_slice.result.now c.put_file.new.space c.put_file.result c.put_file.ensures (long ∙ c.in_ok-file.ensures.len ∙ c.file_len.ensures) in

@@ -1,5 +1,4 @@
 use Rattle.std.proofs.Common.{Ok, Err, refl, arith}
-use Rattle.tasks.specs.Listed.{listed}
 use Rattle.tasks.specs.Spaces.{Written}
 use Rattle.roster_file.specs.Writing.{assembled}
 use Rattle.roster_file.proofs.Canonical.{canonical, written_one, holds_just}
@@ -9,7 +8,7 @@ use Rattle.roster_file.proofs.write.write.Goals as goal
 pub returns-then-space-needed : goal.returns-then-space-needed
 returns-then-space-needed c =
     let t = c.args.standing.now.table in
-    let order = listed c.args.standing.now.order in
+    let order = c.args.standing.now.order in
     let space = c.args.space.now in
     let named = c.args.standing.now.named in
     let file = assembled t order in
@@ -19,7 +18,7 @@ returns-then-space-needed c =
 pub returns : goal.returns
 returns c =
     let t = c.args.standing.now.table in
-    let order = listed c.args.standing.now.order in
+    let order = c.args.standing.now.order in
     let space = c.args.space.now in
     let after = c.put_file.new.space in
     let named = c.args.standing.now.named in

@@ -1,19 +1,10 @@
-use Rattle.std.proofs.Common.{◌≡◌, ℕ, ◌+◌, cond, length, is_some, sym, ap, ◌∙◌, arith}
-use Rattle.roster_file.specs.Sections.{below}
-use Rattle.roster_file.proofs.Writing.{below_none, count_more}
+use Rattle.std.proofs.Common.{length, ap, ◌∙◌, arith, rules}
+use Rattle.std.proofs.lemmas.Iterator.{YieldsList-from_range}
+use Rattle.std.proofs.lemmas.Iterator.Consumers.{count_from_yields_List, YieldsList-from_filter_map}
+use Rattle.roster_file.proofs.Writing.{below_range}
 use Rattle.roster_file.proofs.writer.count_of.Goals as goal
-use Rattle.roster_file.proofs.writer.count_of.Goals.{then-is_some, else-is_some}
 
-pub loop-place-init : goal.loop-place-init
-loop-place-init g c = (sym (ap length (below_none (g.S.Section.placed c.args.section.now))), omega arith)
-
-pub loop-place-preserved : goal.loop-place-preserved
-loop-place-preserved g c =
+pub returns : goal.returns
+returns g c =
     let placed = g.S.Section.placed c.args.section.now in
-    let n = c.loop-place.place in
-    let more : length (below placed (n + 1)) ≡ length (below placed n) + cond c.is_some.result 1 0 =
-    count_more placed n ∙ ap (λ b. length (below placed n) + cond b 1 0) (sym (c.is_some.ensures ∙ ap is_some c.entry_at.ensures)) in
-    elim c.if-is_some.branch [
-      | then-is_some w ↦ let t : cond {A = ℕ} c.is_some.result 1 0 ≡ 1 = ap (λ b. cond b 1 0) w.if-is_some.true in (omega (arith, w.count-is), omega (arith, w.count-is))
-      | else-is_some w ↦ let t : cond {A = ℕ} c.is_some.result 1 0 ≡ 0 = ap (λ b. cond b 1 0) w.if-is_some.false in (omega (arith, w.count-is), omega (arith, w.count-is))
-    ]
+    count_from_yields_List c.filter_map.result c.count.result c.count.ensures.ran (YieldsList-from_filter_map _ placed (YieldsList-from_range 0 32 32 c.filter_map.ensures.source (omega arith)) c.filter_map.ensures.closure (λ x r q k. search rules)) ∙ ap length (below_range placed 32)

@@ -1,21 +1,22 @@
-use Rattle.std.proofs.Common.{◌+◌, ◌^◌, ◌<◌, get_or, None, sym, ap, ◌∙◌, arith, rules}
-use Rattle.tests.specs.Rules.{sum_below, utilization}
-use Rattle.tests.specs.Places.{sum_none, sum_more}
+use Rattle.std.proofs.Common.{ℕ, ◌^◌, get_or, None, sym, ◌∙◌, arith, rules}
+use Rattle.std.specs.List.{range_with_len}
+use Rattle.std.proofs.lemmas.Iterator.Consumers.{sum_by_from_yields_List, fits_by_from_yields_list}
+use Rattle.demand.proofs.Bounds.{lawful}
+use Rattle.tests.specs.Rules.{utilization}
+use Rattle.tests.proofs.Numbers.{numbers_map, sum_numbers, numbers_sum_le, utilization_le}
 use Rattle.tests.proofs.load.load_of.Goals as goal
 
-pub overflow_add-sum : goal.overflow_add-sum
-overflow_add-sum c = let fits : c.loop-number.sum + c.share_of-sum.result < 2 ^ 64 = omega (arith, c.loop-number.invariant.1, c.share_of-sum.ensures.bound) in search rules
-
-pub loop-number-init : goal.loop-number-init
-loop-number-init c = (sym (sum_none _), omega arith)
-
-pub loop-number-preserved : goal.loop-number-preserved
-loop-number-preserved c = (
-  ap (λ x. x + c.share_of-sum.result) c.loop-number.invariant.0
-      ∙ ap (λ x. sum_below c.loop-number.number (λ n. utilization (get_or c.args.table.now.places n None)) + x) c.share_of-sum.ensures.value
-      ∙ sym (sum_more (λ n. utilization (get_or c.args.table.now.places n None)) c.loop-number.number),
-  omega (arith, c.loop-number.invariant.1, c.share_of-sum.ensures.bound),
-)
+pub sum-requires-clause-fits : goal.sum-requires-clause-fits
+sum-requires-clause-fits c =
+    let h : ℕ → ℕ = λ n. utilization (get_or c.args.table.now.places n None) in
+    let l = numbers_sum_le h 1000000000000 (λ n. utilization_le _ (lawful c.args.table.now n)) in
+    fits_by_from_yields_list h (range_with_len 0 32) c.map.result (2 ^ 64)
+    (numbers_map _ h c.new.ensures.start c.new.ensures.end c.new.ensures.exhausted c.map.ensures.source c.map.ensures.closure (λ x r q k. search rules))
+    (omega arith)
 
 pub returns : goal.returns
-returns c = c.loop-number.invariant.0 ∙ ap (λ m. sum_below m (λ n. utilization (get_or c.args.table.now.places n None))) (omega arith)
+returns c =
+    let h : ℕ → ℕ = λ n. utilization (get_or c.args.table.now.places n None) in
+    sum_by_from_yields_List h (range_with_len 0 32) c.map.result c.sum.result c.sum.ensures.ran
+    (numbers_map _ h c.new.ensures.start c.new.ensures.end c.new.ensures.exhausted c.map.ensures.source c.map.ensures.closure (λ x r q k. search rules))
+    ∙ sym (sum_numbers h 32)

@@ -1,18 +1,17 @@
-use Rattle.std.proofs.Common.{max, sym, ap, ◌∙◌, arith}
-use Rattle.tests.specs.Rules.{largest, section_if_below}
-use Rattle.tests.specs.Places.{largest_none, largest_more}
+use Rattle.std.proofs.Common.{ℕ, sym, ap, ◌∙◌, rules, unwrap_or, nat_cmp}
+use Rattle.std.specs.List.{range_with_len}
+use Rattle.std.specs.Ordering.{max_by_ordering}
+use Rattle.std.proofs.lemmas.Iterator.Consumers.{reduce_from_yields_List}
+use Rattle.std.proofs.lemmas.List.Folds.{max_of_map}
+use Rattle.tests.specs.Rules.{section_if_below}
+use Rattle.tests.proofs.Numbers.{numbers_map, largest_numbers}
 use Rattle.tests.proofs.sections.longest_section.Goals as goal
 
-pub loop-number-init : goal.loop-number-init
-loop-number-init c = (sym (largest_none _), omega arith)
-
-pub loop-number-preserved : goal.loop-number-preserved
-loop-number-preserved c =
-    let f = section_if_below c.args.table.now.places c.args.task c.args.above.bits in (
-      c.max-longest.ensures ∙ ap (λ x. max x c.section_below.result) c.loop-number.invariant.0 ∙ ap (max (largest c.loop-number.number f)) c.section_below.ensures.value ∙ sym (largest_more f c.loop-number.number),
-      omega (arith, c.loop-number.invariant.1, c.max-longest.ensures, c.section_below.ensures.bound),
-    )
-
-pub returns : goal.returns
-returns c =
-    record { value = c.loop-number.invariant.0 ∙ ap (λ m. largest m (section_if_below c.args.table.now.places c.args.task c.args.above.bits)) (omega arith); bound = c.loop-number.invariant.1 }
+pub returns-clause-value : goal.returns-clause-value
+returns-clause-value c =
+    let h : ℕ → ℕ = section_if_below c.args.table.now.places c.args.task c.args.above.bits in
+    c.unwrap_or.ensures
+    ∙ ap (λ o. unwrap_or o 0) (reduce_from_yields_List (λ p z. max_by_ordering (nat_cmp p z) p z) c.map.result c.max.result c.max.ensures.ran
+    (numbers_map _ h c.new.ensures.start c.new.ensures.end c.new.ensures.exhausted c.map.ensures.source c.map.ensures.closure (λ x r q k. search rules)))
+    ∙ max_of_map h (range_with_len 0 32)
+    ∙ sym (largest_numbers h 32)

@@ -1,12 +1,11 @@
-use Rattle.std.proofs.Common.{◌≡◌, ℕ, ◌+◌, ◌-◌, ◌≤◌, ltb, List, length, get_or, drop, replicate, Ok, sym, ap, ◌∙◌, subst, arith, rules}
+use Rattle.std.proofs.Common.{◌≡◌, ℕ, ◌+◌, ◌-◌, ◌≤◌, ltb, List, length, get_or, drop, Ok, sym, ap, ◌∙◌, subst, arith, rules}
 use Rattle.std.proofs.lemmas.List.{ext_get_or, length-drop, get_or-drop}
 use Rattle.schedule.specs.Jobs.{no_finish}
 use Rattle.schedule.specs.declared.job.Finish.{Finish}
-use Rattle.queue.proofs.Laws.{emptied, space_trans}
+use Rattle.queue.proofs.Laws.{given_back, space_trans}
 use Rattle.queue.specs.Queues.{entries}
 use Rattle.schedule.proofs.Ending.{one_schedule}
 use Rattle.std.proofs.lemmas.Bool.{cond-true, lt-ltb}
-use Rattle.tasks.specs.Listed.{listed}
 use Rattle.timetable.proofs.Counted.{at_most_one}
 use Rattle.timetable.proofs.Events.{started}
 use Rattle.timetable.proofs.Exclusive.{only_answer}
@@ -28,13 +27,11 @@ run-requires c =
     let new = c.new-turns.ensures in
     let none = ap length new.empty in
     record {
-      lawful = accepted.1;
-      few = (accepted.0.0, accepted.0.1);
+      finishes = accepted.0.1;
       room = omega (arith, f.len, new.capacity, accepted.0.3);
-      reached = λ σ sch. subst (Between s.table.places (listed s.order) js σ c.args.finishes.now 0 (entries c.fill.new.coming)) (sym new.empty) (
+      reached = λ σ sch. subst (Between s.table.places s.order js σ c.args.finishes.now 0 (entries c.fill.new.coming)) (sym new.empty) (
           started s js accepted.1 σ sch c.args.finishes.now (entries c.fill.new.coming) f.coming (λ j. omega (arith, f.once j, at_most_one (ltb j (length js)))) (λ j l. omega (arith, f.once j, cond-true {A = ℕ} (ltb j (length js)) 1 0 (lt-ltb j (length js) l)))
           );
-      arranged = (f.arranged c.new-releases.ensures.arranged, new.arranged);
     }
 
 pub returns : goal.returns
@@ -48,12 +45,8 @@ returns c =
     let second = e.waiting.1 in
     let first-named = first.lent ∙ c.new-releases.ensures.lent in
     let second-named = second.lent ∙ c.new-turns.ensures.lent in
-    let first-room = first.room ∙ c.new-releases.ensures.capacity in
-    let second-room = second.room ∙ c.new-turns.ensures.capacity in
-    let first-blank = first.blank ∙ c.new-releases.ensures.blank in
-    let second-blank = second.blank ∙ c.new-turns.ensures.blank in
-    let releases : c.run.new.coming.slots.now ≡ replicate (length c.args.coming.now) no_coming = emptied c.run.new.coming e.coming.0 ∙ (λ i. replicate (first-room i) (first-blank i)) in
-    let turns : c.run.new.waiting.slots.now ≡ replicate (length c.args.waiting.now) no_waiting = emptied c.run.new.waiting e.waiting.0 ∙ (λ i. replicate (second-room i) (second-blank i)) in
+    let releases = given_back _ _ _ no_coming c.new-releases.ensures.capacity (c.new-releases.ensures.blank ∙ search rules) first e.coming.0 in
+    let turns = given_back _ _ _ no_waiting c.new-turns.ensures.capacity (c.new-turns.ensures.blank ∙ search rules) second e.waiting.0 in
     record {
       outcome = (accepted, (is.0, is.1, e.finishes is.0 is.1));
       beyond = same_beyond (length js) c.run.new.finishes c.args.finishes.now c.run.auto.finishes e.beyond;

@@ -17,7 +17,6 @@ loop-i-init c = (
   subst (AllByRecursion (Comes c.args.jobs.now 0)) (sym c.requires.empty) tt,
   λ j. ap (sum_by (λ (x : Coming). is_for j x.index)) c.requires.empty ∙ sym (cond-false {A = ℕ} (ltb j 0) 1 0 (le-ltb j 0 (omega arith))),
   ap length c.requires.empty,
-  λ a. a,
   same_space _,
 )
 
@@ -29,13 +28,12 @@ loop-i-preserved c =
     let xs = entries c.loop-i.coming in
     let x : Coming = record { release = (job_at js i).release; index = i } in
     let e = c.insert.ensures in
-    let room : c.insert.result ≡ true = e.room ∙ lt-ltb _ _ (omega (arith, inv.2, inv.4.room, c.requires.room)) in
+    let room : c.insert.result ≡ true = e.room ∙ lt-ltb _ _ (omega (arith, inv.2, inv.3.room, c.requires.room)) in
     let in' = e.inserted room in (
       all_shuffled (Comes js 0) _ _ in' ((c.loop-i-test.true, refl, omega arith), inv.0),
       λ j. sum_by-IsPermutation (λ (y : Coming). is_for j y.index) (x ∷ xs) _ in' ∙ sum_by-cons (λ (y : Coming). is_for j y.index) x xs ∙ ap (λ n. is_for j i + n) (inv.1 j) ∙ one_more j i,
       omega (arith, length_permutation _ _ in', inv.2),
-      λ a. e.arranged (inv.3 a),
-      space_trans _ _ _ inv.4 e.space,
+      space_trans _ _ _ inv.3 e.space,
     )
 
 pub returns : goal.returns
@@ -46,6 +44,5 @@ returns c =
       coming = inv.0;
       once = λ j. inv.1 j ∙ ap (λ n. cond {A = ℕ} (ltb j n) 1 0) all;
       len = inv.2 ∙ all;
-      arranged = inv.3;
-      space = inv.4;
+      space = inv.3;
     }

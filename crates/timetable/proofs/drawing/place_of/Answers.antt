@@ -1,10 +1,12 @@
-use Rattle.std.proofs.Common.{ap, ◌∙◌, arith}
+use Rattle.std.proofs.Common.{eqb, length, unwrap_or, ap, ◌∙◌, rules, tests}
 use Rattle.schedule.specs.Schedule.{place}
-use Rattle.timetable.proofs.Ranked.{place_at, place_past}
+use Rattle.std.proofs.lemmas.Iterator.{YieldsList-from_slice}
+use Rattle.std.proofs.lemmas.Iterator.Search.{position_from_yields_List}
+use Rattle.timetable.proofs.Ranked.{placed}
 use Rattle.timetable.proofs.drawing.place_of.Goals as goal
 
-pub returns-then-number-task : goal.returns-then-number-task
-returns-then-number-task c = place_at c.as_slice-numbers.result.now c.args.task c.loop-i.i (omega arith) c.loop-i.invariant c.if-number-task.true ∙ ap (λ xs. place xs c.args.task) c.as_slice-numbers.ensures
-
 pub returns : goal.returns
-returns c = place_past c.as_slice-numbers.result.now c.args.task (λ k l. c.loop-i.invariant k (omega arith)) ∙ ap (λ xs. place xs c.args.task) c.as_slice-numbers.ensures
+returns c =
+    let numbers = c.as_slice-numbers.result.now in
+    let found = position_from_yields_List (λ x. eqb x c.args.task) _ _ c.position.result c.position.ensures.ran (YieldsList-from_slice numbers c.iter.ensures.rest) (λ x b q k. search (rules, tests)) in
+    c.unwrap_or.ensures ∙ ap (λ o. unwrap_or o (length numbers)) found ∙ placed c.args.task numbers ∙ ap (λ xs. place xs c.args.task) c.as_slice-numbers.ensures.numbers

@@ -1,4 +1,5 @@
 use Rattle.std.proofs.Common.{◌≡◌, ℕ, ◌<◌, false, length, get_or, Some, None, Ok, Err, sym, refl, ap, ◌∙◌, arith, below_more}
+use Rattle.std.specs.Result.{result_ok}
 use Rattle.schedule.specs.Jobs.{job_at, JobLawful}
 use Rattle.std.proofs.lemmas.Bool.{both_ways}
 use Rattle.timetable.proofs.Asked.{known, timed, spaced, spaced_from}
@@ -12,8 +13,8 @@ returns-then-not-is_spaced c =
     let ps = c.args.standing.now.table.places in
     let js = c.args.jobs.now in
     let i = c.loop-i.i in
-    let r = c.in-Some.row in
-    let row : get_or ps (job_at js i).task None ≡ Some r = sym (c.in-Some.ensures.value ∙ ap (λ t. get_or t.places (job_at js i).task None) c.table.ensures) in
+    let r = c.in_ok-row.row in
+    let row : get_or ps (job_at js i).task None ≡ Some r = sym (c.row.ensures.value ∙ ap (λ t. get_or t.places (job_at js i).task None) c.table.ensures) ∙ c.ok_or.ensures.ok_part ∙ ap result_ok c.in_ok-row.was in
     let near = c.if-not-is_spaced.ensures.1 in
     let refused : Refused ps js c.args.finishes c.args.coming c.args.waiting (Distance i) = (
       (c.if-not-has_room.ensures.0 refl, c.loop-i-test.true, c.loop-i.invariant),
@@ -28,8 +29,8 @@ loop-i-preserved c =
     let ps = c.args.standing.now.table.places in
     let js = c.args.jobs.now in
     let i = c.loop-i.i in
-    let r = c.in-Some.row in
-    let row : get_or ps (job_at js i).task None ≡ Some r = sym (c.in-Some.ensures.value ∙ ap (λ t. get_or t.places (job_at js i).task None) c.table.ensures) in
+    let r = c.in_ok-row.row in
+    let row : get_or ps (job_at js i).task None ≡ Some r = sym (c.row.ensures.value ∙ ap (λ t. get_or t.places (job_at js i).task None) c.table.ensures) ∙ c.ok_or.ensures.ok_part ∙ ap result_ok c.in_ok-row.was in
     below_more _ _ c.loop-i.invariant (
       known ps js i r row,
       timed ps js i r row (c.if-not-is_in_bounds.ensures.0 refl),

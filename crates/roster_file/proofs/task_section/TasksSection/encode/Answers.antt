@@ -7,11 +7,11 @@ pub loop-i-preserved : goal.loop-i-preserved
 loop-i-preserved c =
     let l = c.loop-i in
     let long : length l.bytes ≡ task_width = l.auto.bytes ∙ length-set _ _ _ ∙ length-set _ _ _ ∙ c.requires in
-    time_put l.bytes _ c.times_of-times.result _ l.i _ (omega (arith, ap length c.times_of-times.ensures)) (omega arith) l.invariant (c.copy_from_slice.ensures.after ∙ c.to_le_bytes.ensures ∙ time_as_bytes _)
+    time_put l.bytes _ c.times_of.result _ l.i _ (omega (arith, ap length c.times_of.ensures)) (omega arith) l.invariant (c.copy_from_slice.ensures.after ∙ c.to_le_bytes.ensures ∙ time_as_bytes _)
 
 pub returns : goal.returns
 returns c =
     let l = c.loop-i in
     let long : length l.bytes ≡ task_width = l.auto.bytes ∙ length-set _ _ _ ∙ length-set _ _ _ ∙ c.requires in
-    let few = ap length c.times_of-times.ensures in
-    task_put l.bytes c.args.bytes.now c.times_of-times.result _ l.i _ _ _ (omega arith) (omega arith) (omega arith) l.invariant c.byte_of.ensures c.times_of-times.ensures
+    let few = ap length c.times_of.ensures in
+    task_put l.bytes c.args.bytes.now c.times_of.result _ l.i _ _ _ (omega arith) (omega arith) (omega arith) l.invariant c.from.ensures c.times_of.ensures

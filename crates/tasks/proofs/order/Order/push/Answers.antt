@@ -1,14 +1,9 @@
-use Rattle.std.proofs.Common.{sym, refl, arith}
-use Rattle.std.proofs.lemmas.List.{take_more_set}
-use Rattle.std.proofs.lemmas.Bool.{true≢false, lt-ltb}
+use Rattle.std.proofs.Common.{◌∙◌, arith, length-set}
+use Rattle.tasks.proofs.Ordered.{one_more}
 use Rattle.tasks.proofs.order.Order.push.Goals as goal
 
-pub returns : goal.returns
-returns c =
-    let o = c.args.self.now in
-    record {
-      room = sym (lt-ltb o.len 32 (omega (arith, o.full, o.few)));
-      listed = take_more_set o.numbers o.len c.args.number (omega (arith, o.full, o.few));
-      len = refl;
-      kept = λ e. absurd (true≢false e);
-    }
+pub invariant_of-self : goal.invariant_of-self
+invariant_of-self c =
+    let o = c.self.inside in
+    let few = c.if-self-eq-PLACES.false in
+    (omega (arith, c.self.invariant.0), length-set _ _ _ ∙ c.self.told, one_more o.numbers o.len c.args.number 32 (omega (arith, c.self.invariant.0)) c.self.told c.self.invariant.2)

@@ -1,17 +1,10 @@
 use Rattle.std.proofs.Common.{sym, ap, ◌∙◌, arith}
 use Rattle.tasks.specs.Sets.{member}
-use Rattle.tasks.proofs.Sets.{member_in, sub_fits, sub_excluding, member_excluding}
+use Rattle.tasks.proofs.Sets.{member_in, sub_excluding, member_excluding}
 use Rattle.tasks.proofs.set.TaskSet.without.Goals as goal
 
 pub overflow_shl-result : goal.overflow_shl-result
 overflow_shl-result c = member_in 32 c.args.self.bits c.args.number (omega arith) (sym c.if-not-contains.ensures)
-
-pub overflow_sub-result : goal.overflow_sub-result
-overflow_sub-result c =
-    let h = c.args.self.bits in
-    let n = c.args.number in
-    let e = sym c.if-not-contains.ensures in
-    sub_fits 32 h n (member_in 32 h n (omega arith) e) e
 
 pub returns : goal.returns
 returns c =

@@ -1,4 +1,4 @@
-use Rattle.std.proofs.Common.{sym, refl, ◌∙◌}
+use Rattle.std.proofs.Common.{refl}
 use Rattle.std.proofs.lemmas.Bool.Decides.{Decides-at}
 use Rattle.tests.specs.Rules.{responds}
 use Rattle.tests.proofs.Answers.{after_proper}
@@ -11,5 +11,5 @@ returns-then-is_proper c =
     let k = c.args.task in
     let h = c.args.above.bits in
     let m = c.args.self.now.mode in
-    let e = c.is_in_time.ensures ∙ sym (after_proper (responds m) t k h (sym c.if-is_proper.ensures.value)) in
+    let e = after_proper (responds m) t k h _ c.if-is_proper.ensures.value c.is_in_time.ensures in
     record { answer = e; same = λ u i g. refl; means = Decides-at _ _ e (in_time_words m t k h) }
