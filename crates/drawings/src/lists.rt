@@ -25,6 +25,19 @@ const OLD_WAITING: Waiting = Waiting {
     left: 3,
 };
 
+// All zeros, written out and not made by the library.
+const NO_COMING: Coming = Coming {
+    release: 0,
+    index: 0,
+};
+
+const NO_WAITING: Waiting = Waiting {
+    place: 0,
+    release: 0,
+    index: 0,
+    left: 0,
+};
+
 #[derive(Clone, Copy)]
 pub(crate) struct Lengths {
     pub(crate) finishes: usize,
@@ -103,7 +116,7 @@ pub(crate) fn hold(
         "a finish list differs"
     );
     ensure!(
-        lists.works_hold(Coming::default(), Waiting::default()),
+        lists.works_hold(NO_COMING, NO_WAITING),
         "a working list is not all zeros"
     );
     Ok(())

@@ -20,10 +20,14 @@ fn refuse(
     let Err(fault) = lists.fill(standing, jobs) else {
         bail!("a drawing is accepted");
     };
-    ensure!(
-        fault.refusal() == Refusal::new(number, Layer::Timetable, place),
-        "another refusal is told"
-    );
+    // written out, and not made by the library
+    let told = Refusal {
+        number,
+        layer: Layer::Timetable,
+        place,
+        innermost: number,
+    };
+    ensure!(fault.refusal() == told, "another refusal is told");
     ensure!(lists.is_untouched(), "a refused drawing changed a list");
     Ok(())
 }

@@ -17,9 +17,19 @@ pub(crate) struct Said {
     pub inner: Option<Refusal>,
 }
 
+// Written out, and not made by the library.
+fn told(number: u8, layer: Layer, place: usize) -> Refusal {
+    Refusal {
+        number,
+        layer,
+        place,
+        innermost: number,
+    }
+}
+
 fn plainly(number: u8, place: usize) -> Said {
     Said {
-        outer: Refusal::new(number, Layer::File, place),
+        outer: told(number, Layer::File, place),
         inner: None,
     }
 }
@@ -76,14 +86,14 @@ fn stands(file: &[u8], at: usize) -> Result<(), Said>
     let number = file[at];
     let place = usize::from(number);
     let inner = if let Some(bound) = broken(number, row(file, at)) {
-        Refusal::new(bound, Layer::Record, place)
+        told(bound, Layer::Record, place)
     } else if file[2..at].chunks(22).any(|other| other[0] == number) {
-        Refusal::new(5, Layer::Roster, place)
+        told(5, Layer::Roster, place)
     } else {
         return Ok(());
     };
     Err(Said {
-        outer: Refusal::new(inner.number, Layer::File, at),
+        outer: told(inner.number, Layer::File, at),
         inner: Some(inner),
     })
 }

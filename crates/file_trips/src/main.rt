@@ -57,7 +57,9 @@ fn roster(tasks: usize) -> anyhow::Result<Standing> {
 fn example(file: &[u8]) -> anyhow::Result<Standing> {
     let mut table = Table::empty();
     let mut order = Order::empty();
-    read(file, &mut table, &mut order)?;
+    read(file, &mut table, &mut order)
+        .ok()
+        .context("an example that is refused")?;
     let mut by_number = Order::empty();
     for number in table.tasks() {
         by_number.push(number);

@@ -17,6 +17,16 @@ use tests::load::Load;
 use tests::response::InTime;
 use tests::sections::Sections;
 
+// The refusal of a value that is out of bounds, written out and not made by the library.
+fn told(number: u8, value: usize) -> Refusal {
+    Refusal {
+        number,
+        layer: Layer::Pile,
+        place: value,
+        innermost: number,
+    }
+}
+
 #[test]
 fn response_times(rt: HostRuntime) -> Result<(), Fail> {
     let table = tight()?;
@@ -45,10 +55,7 @@ fn load_refused(rt: &impl Abort, limit: u32) -> Result<(), Fail> {
         return Err(Fail::new("the limit is taken"));
     };
     assert_eq!(rt; fault, TestFault::Limit(limit));
-    assert_eq!(rt;
-        fault.refusal(),
-        Refusal::new(22, Layer::Pile, limit as usize)
-    );
+    assert_eq!(rt; fault.refusal(), told(22, limit as usize));
     Ok(())
 }
 
@@ -64,10 +71,7 @@ fn reserve_out_of_bounds(rt: HostRuntime) -> Result<(), Fail> {
         return Err(Fail::new("the reserve is taken"));
     };
     assert_eq!(rt; rejected.fault, TestFault::Reserve(1_000_001));
-    assert_eq!(rt;
-        rejected.fault.refusal(),
-        Refusal::new(21, Layer::Pile, 1_000_001)
-    );
+    assert_eq!(rt; rejected.fault.refusal(), told(21, 1_000_001));
     Ok(())
 }
 

@@ -1,5 +1,5 @@
 // A listing and a refusal as bytes in space handed in.
-ghost use Rattle.std.specs.Prelude.{[], ◌∷◌, decimal, refl};
+ghost use Rattle.std.specs.Prelude.{◌≤◌, [], ◌∷◌, length, decimal, refl};
 ghost use Rattle.std.proofs.Common.{ltb-true};
 ghost use Rattle.listing.specs.Texts.{letter, time_text, line_text, listing_text, refusal_text};
 ghost use Rattle.tasks.specs.Spaces.{Written};
@@ -12,8 +12,11 @@ use tasks::kind::Kind;
 
 // Writes the text of the lines, or tells how many bytes it needs.
 pub fn write_listing(lines: &Lines, space: &mut [u8]) -> Result<usize, SpaceFault>
-    ensures { Written (listing_text lines.now) space.old space.new result }
+    ensures text { Written (listing_text lines.now) space.old space.new result }
+    ensures few { length lines.now ≤ 32 }
 {
+    // asked for what it tells: there are 32 lines at most
+    let _few = lines.as_slice();
     write(lines, space)
 }
 

@@ -15,11 +15,10 @@ use tasks::set::TaskSet;
 use tests::guarantee::guarantee;
 use tests::sections::Sections;
 
-fn set_of(numbers: &[u8]) -> TaskSet {
-    numbers
-        .iter()
-        .fold(TaskSet::empty(), |set, number| set.with(*number))
-}
+// Tasks 1 and 2, written out and not made by the library.
+const BOTH: TaskSet = TaskSet {
+    bits: 1 << 1 | 1 << 2,
+};
 
 // What plan is to answer: an order, or the tasks that are left where it is refused.
 fn check<T: Test>(
@@ -49,7 +48,7 @@ fn spare_ticks(heap: Global) -> anyhow::Result<()> {
     let mut four = Reserve::new(4, guarantee()).unwrap();
     check(heap, &tasks, &mut four, Ok(&[2, 1]))?;
     let mut five = Reserve::new(5, guarantee()).unwrap();
-    check(heap, &tasks, &mut five, Err(set_of(&[1, 2])))
+    check(heap, &tasks, &mut five, Err(BOTH))
 }
 
 // A tolerable task of 160 ticks may take 40 of them above a strict one, and not 60; of equal deadlines the higher number is lower.
@@ -57,7 +56,7 @@ fn guaranteed(heap: Global) -> anyhow::Result<()> {
     let mut test = guarantee();
     let strict = (2, row(Kind::Strict, 110, 121, 0, 240));
     let long = [(1, row(Kind::Tolerable, 60, 61, 0, 160)), strict];
-    check(heap, &long, &mut test, Err(set_of(&[1, 2])))?;
+    check(heap, &long, &mut test, Err(BOTH))?;
     let short = [(1, row(Kind::Tolerable, 40, 41, 0, 160)), strict];
     check(heap, &short, &mut test, Ok(&[1, 2]))?;
     let same = row(Kind::Strict, 1, 1, 0, 4);
@@ -72,7 +71,7 @@ fn held_up(heap: Global) -> anyhow::Result<()> {
     let three = [quick, (4, row(Kind::Strict, 4, 4, 3, 20))];
     check(heap, &three, &mut Sections, Ok(&[3, 4]))?;
     let four = [quick, (4, row(Kind::Strict, 4, 4, 4, 20))];
-    check(heap, &four, &mut Sections, Err(set_of(&[3])))
+    check(heap, &four, &mut Sections, Err(TaskSet { bits: 1 << 3 }))
 }
 
 // Every place is in use, and the shorter deadline is higher. There are too many orders to look at each.

@@ -42,6 +42,16 @@ fn all_orders<T: Test>(
     Ok(first.ok_or(highest.map_or(TaskSet::empty(), |no| no.tasks)))
 }
 
+// A refusal of the roster's questions that is told with no task, written out and not made by the library.
+fn without_task(number: u8) -> Refusal {
+    Refusal {
+        number,
+        layer: Layer::Roster,
+        place: 0,
+        innermost: number,
+    }
+}
+
 // Whether plan answers with this order, or with its refusal and these tasks left.
 pub(crate) fn is_answer(
     planned: &Result<Order, PlanFault>,
@@ -49,8 +59,7 @@ pub(crate) fn is_answer(
 ) -> bool {
     match (planned, wanted) {
         (Ok(found), Ok(order)) => found.as_slice() == order,
-        (Err(fault), Err(left)) => fault.refusal() == Refusal::new(7, Layer::Roster, 0)
-            && fault.left == left,
+        (Err(fault), Err(left)) => fault.refusal() == without_task(7) && fault.left == left,
         _ => false,
     }
 }
@@ -74,8 +83,7 @@ pub(crate) fn compare<T: Test>(heap: Global, table: &Table, test: &mut T) -> any
 }
 
 fn is_no_order<T: Test>(table: &Table, numbers: &[u8], test: &mut T) -> bool {
-    judge(table, numbers, test).is_err_and(|fault| fault.refusal()
-        == Refusal::new(18, Layer::Roster, 0))
+    judge(table, numbers, test).is_err_and(|fault| fault.refusal() == without_task(18))
 }
 
 // Whether judge refuses the numbers with each of some more after them.

@@ -66,14 +66,15 @@ pub(crate) struct Noes {
 // Asks at every place, whatever was said before; none where the order passes.
 pub(crate) fn ask_each<T: Test>(table: &Table, order: &[u8], test: &mut T) -> Option<Noes> {
     let mut noes: Option<Noes> = None;
-    let mut above = TaskSet::empty();
+    // bits of its own, and not by the library's `with`
+    let mut above = 0;
     for (i, task) in order.iter().enumerate() {
-        let passes = test.passes(table, *task, above);
-        above = above.with(*task);
+        let passes = test.passes(table, *task, TaskSet { bits: above });
+        above |= 1u32.wrapping_shl(u32::from(*task));
         if !passes {
             let last = No {
                 place: i + 1,
-                tasks: above,
+                tasks: TaskSet { bits: above },
             };
             let first = noes.map_or(last, |noes| noes.first);
             noes = Some(Noes { first, last });

@@ -1,3 +1,3 @@
-pub mod Meanings
 pub mod Lining
 pub mod Single
+pub mod Late

@@ -9,6 +9,7 @@ ghost use Rattle.roster_file.specs.Layout.{Refused};
 ghost use Rattle.roster_file.specs.declared.fault.FileFault.{FileFault};
 ghost use Rattle.tasks.specs.declared.table.Table.{Table};
 
+use crate::remembering::Remembering;
 use demand::mode::Mode;
 use demand::response;
 use listing::line::Line;
@@ -24,7 +25,6 @@ use tasks::refusal::{Fault, Refusal};
 use tasks::set::TaskSet;
 use tasks::standing::Standing;
 use tasks::table::Table;
-use tests::guarantee::guarantee;
 
 // Why there is no listing.
 #[derive(Clone, Copy)]
@@ -101,7 +101,7 @@ fn planned(file: &[u8]) -> Result<Standing, NoListing>
     let mut table = Table::empty();
     let mut order = Order::empty();
     read(file, &mut table, &mut order)?;
-    let order = plan(&table, &mut guarantee())?;
+    let order = plan(&table, &mut Remembering::nothing())?;
     // a plan lists each task once
     Ok(Standing::new(table, order).unwrap())
 }

@@ -4,6 +4,7 @@
 mod answer;
 #[cfg(test)]
 mod label_press;
+mod remembering;
 #[cfg(test)]
 mod whole_files;
 

@@ -39,7 +39,7 @@ module _ (told says : Meaning) (alike : Alike told says) (t : Table) where
   pub first_alike : (h k : ℕ) → FirstYes told t h k → FirstYes says t h k
   first_alike h k (y, n) = (sym (alike t k h) ∙ y, λ j m b. sym (alike t j _) ∙ n j m b)
 
-  stuck_alike : (l : ℕ) → Stuck told t l → Stuck says t l
+  pub stuck_alike : (l : ℕ) → Stuck told t l → Stuck says t l
   stuck_alike l s k m = sym (alike t k _) ∙ s k m
 
 -- ---- the plan is the only one

@@ -34,7 +34,7 @@ module _ (bytes rest : List ℕ) (m at start : ℕ) (t : Table) (s : Numbers) (l
   order_file : bytes ≡ length k.entries ∷ (k.entries ++ left)
   order_file = e ∙ ap (λ n. n ∷ rest) (sym k.counted) ∙ ap (λ xs. length k.entries ∷ xs) (k.bytes ∙ ap (λ xs. xs ++ left) (joined_each k.entries))
 
-  order_unnamed : (Named k.entries t → ⊥) → OrderRefused bytes at t (fault.Order at)
+  pub order_unnamed : (Named k.entries t → ⊥) → OrderRefused bytes at t (fault.Order at)
   order_unnamed n = inr ((k.entries, left, order_file, n), refl)
 
   few_named : Named k.entries t → length k.entries ≤ 32

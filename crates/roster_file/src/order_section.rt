@@ -47,14 +47,16 @@ impl Section for Numbers {
     }
 
     fn keep(&mut self, entry: u8, _offset: usize) -> Result<(), FileFault> {
-        self.order = self
-            .order
-            .and_then(|mut order| order.push(entry).then_some(order));
+        if let Some(order) = &mut self.order
+            && !order.push(entry)
+        {
+            self.order = None;
+        }
         Ok(())
     }
 
     fn entry_at(&self, place: u8) -> Option<u8> {
-        let order = self.order?;
+        let order = self.order.as_ref()?;
         order.as_slice().get(usize::from(place)).copied()
     }
 

@@ -69,7 +69,8 @@ impl Order {
 
     // The same numbers, the last first.
     pub fn reversed(&self) -> Order
-        ensures { result ≡ reverse self.now }
+        ensures numbers { result ≡ reverse self.now }
+        ensures few { length self.now ≤ 32 }
     {
         let mut numbers = self.numbers;
         let len = self.len;

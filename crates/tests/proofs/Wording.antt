@@ -23,9 +23,9 @@ served m t r h y = let f = some_found (λ n. leb (demand m t.places r h n) n) (s
 pub serving : (m : Mode) (t : Table) (r : Row) (h : ℕ) → Served m t r h → present m t.places r h ≡ true
 serving m t r h (n, a, b, s) = some_at (λ i. leb (demand m t.places r h i) i) (search_end r) n a b (le-leb _ _ s)
 
--- a guarded rule, where the rule is told in words
-guarded_words : (rule : Meaning) (t : Table) (k h : ℕ) (P : Type 0) → Decides (rule t k h) P → Decides (guarded rule t k h) (Proper t k h × P)
-guarded_words rule t k h P d = (λ y. let p = and_parts (proper t k h) _ y in (proper_means t k h p.0, d.0 p.1), λ q. and_from _ _ (proper_from t k h q.0) (d.1 q.1))
+-- a guarded rule, where the rule is told in words, if need be for a proper question alone
+pub guarded_words : (rule : Meaning) (t : Table) (k h : ℕ) (P : Type 0) → (proper t k h ≡ true → rule t k h ≡ true → P) → (P → rule t k h ≡ true) → Decides (guarded rule t k h) (Proper t k h × P)
+guarded_words rule t k h P to from = (λ y. let p = and_parts (proper t k h) _ y in (proper_means t k h p.0, to p.0 p.1), λ q. and_from _ _ (proper_from t k h q.0) (from q.1))
 
 -- a question about the task at a place, where it is told in words for each row
 row_words : (ask : Row → Bool) (Q : Row → Type 0) → ((r : Row) → Decides (ask r) (Q r)) → (o : Option Row) → Decides (of_task o ask) ((r : Row) × (o ≡ Some r) × Q r)
@@ -36,7 +36,8 @@ row_words ask Q each o = (to_row o refl, λ q. subst (λ p. of_task p ask ≡ tr
 
 pub in_time_words : (m : Mode) (t : Table) (k h : ℕ) → Decides (guarded (responds m) t k h) (InTimeSays m t k h)
 in_time_words m t k h =
-    guarded_words (responds m) t k h _ (row_words (λ r. present m t.places r h) (λ r. Served m t r h) (λ r. (served m t r h, serving m t r h)) (get_or t.places k None))
+    let d = row_words (λ r. present m t.places r h) (λ r. Served m t r h) (λ r. (served m t r h, serving m t r h)) (get_or t.places k None) in
+    guarded_words (responds m) t k h _ (λ _. d.0) d.1
 
 -- the largest is at most x where each is
 largest_under : (n : ℕ) (f : ℕ → ℕ) (x : ℕ) → ((j : ℕ) → f j ≤ x) → largest n f ≤ x
@@ -86,5 +87,6 @@ module _ (t : Table) (k h : ℕ) where
 
   pub sections_words : Decides (guarded unblocked t k h) (SectionsSays t k h)
   sections_words =
-      guarded_words unblocked t k h _
-      (row_words (λ r. some_up_to (λ n. leb (demand Normal t.places r h n + blocking t.places k h) n) (search_end r)) (λ r. (n : ℕ) × (1 ≤ n) × (n ≤ search_end r) × ServesBehind t k r h n) (λ r. (behind r, from_behind r)) (get_or t.places k None))
+      let d =
+      row_words (λ r. some_up_to (λ n. leb (demand Normal t.places r h n + blocking t.places k h) n) (search_end r)) (λ r. (n : ℕ) × (1 ≤ n) × (n ≤ search_end r) × ServesBehind t k r h n) (λ r. (behind r, from_behind r)) (get_or t.places k None) in
+      guarded_words unblocked t k h _ (λ _. d.0) d.1

@@ -51,7 +51,7 @@ impl Test for Load {
 fn load_of(table: &Table) -> u64
     ensures { result ≡ load table.now.places }
 {
-    (0..=LAST).map(|number| share_of(table, number)).sum()
+    (0..LAST + 1).map(|number| share_of(table, number)).sum()
 }
 
 #[tactic(auto, using(demand::proofs::Rounding::ceil_quotient))]

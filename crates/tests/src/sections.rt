@@ -49,7 +49,7 @@ fn longest_section(table: &Table, task: u8, above: TaskSet) -> u32
     ensures value { result ≡ blocking table.now.places task above.bits }
     ensures bound { result ≤ 1000000 }
 {
-    (0..=LAST)
+    (0..LAST + 1)
         .map(|number| section_below(table, number, task, above))
         .max()
         .unwrap_or(0)

@@ -10,14 +10,14 @@ returns-in_err-write_listing-in-Ok c =
     let s = c.in-Ok.standing in
     let f = c.in_err-write_listing-in-Ok.field-0.0 in
     let p = err_from_is_err_and c.from_residual.result c.from_residual.ensures.1 in
-    let k = listing_told c.args.file.now c.args.space.now c.write_listing.new.space (Err f) s.table s.order c.lines.result c.in-Ok.ensures.outcome c.in-Ok.ensures.only c.lines.ensures c.in_err-write_listing-in-Ok.ensures in
+    let k = listing_told c.args.file.now c.args.space.now c.write_listing.new.space (Err f) s.table s.order c.lines.result c.in-Ok.ensures.outcome c.in-Ok.ensures.only c.lines.ensures c.in_err-write_listing-in-Ok.ensures.text in
     rw (p.1, p.2) (record { text = k.text; listing = k.listing; refusal = k.refusal; fits = tt })
 
 pub returns-in_ok-write_listing-in-Ok : goal.returns-in_ok-write_listing-in-Ok
 returns-in_ok-write_listing-in-Ok c =
     let s = c.in-Ok.standing in
     let n = c.in_ok-write_listing-in-Ok.field-0 in
-    let w = c.in_ok-write_listing-in-Ok.ensures in
+    let w = c.in_ok-write_listing-in-Ok.ensures.text in
     let k = listing_told c.args.file.now c.args.space.now c.write_listing.new.space (Ok (Listed n)) s.table s.order c.lines.result c.in-Ok.ensures.outcome c.in-Ok.ensures.only c.lines.ensures w in
     record { text = k.text; listing = k.listing; refusal = k.refusal; fits = omega (arith, w.0, w.1) }
 

@@ -58,8 +58,8 @@ returns g c =
     let full = subst (Filled (FirstYes says t) a us) none c.loop-task.invariant.0 in
     let left = subst (LeftOver says t) none (planned_left says t a c.tasks-left.ensures _ c.loop-task.invariant.1 us l c.loop-task.invariant.0 c.in_default.ensures.value) in
     record {
-      outcome = subst (IsPlan says t) (sym c.reversed.ensures) (filled_plan says t a c.tasks-left.ensures us full);
-      only = λ p i. c.reversed.ensures ∙ plan_same says t a c.tasks-left.ensures us p full i;
+      outcome = subst (IsPlan says t) (sym c.reversed.ensures.numbers) (filled_plan says t a c.tasks-left.ensures us full);
+      only = λ p i. c.reversed.ensures.numbers ∙ plan_same says t a c.tasks-left.ensures us p full i;
       left = left;
       always_left = λ m v. left_same says t raise m 0 v left;
       same = λ s j h. c.lowest.ensures.same s j h ∙ c.loop-task.invariant.1 s j h;

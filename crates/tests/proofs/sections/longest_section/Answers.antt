@@ -12,6 +12,6 @@ returns-clause-value c =
     let h : ℕ → ℕ = section_if_below c.args.table.now.places c.args.task c.args.above.bits in
     c.unwrap_or.ensures
     ∙ ap (λ o. unwrap_or o 0) (reduce_from_yields_List (λ p z. max_by_ordering (nat_cmp p z) p z) c.map.result c.max.result c.max.ensures.ran
-    (numbers_map _ h c.new.ensures.start c.new.ensures.end c.new.ensures.exhausted c.map.ensures.source c.map.ensures.closure (λ x r q k. search rules)))
+    (numbers_map _ h c.map.ensures.source c.map.ensures.closure (λ x r q k. search rules)))
     ∙ max_of_map h (range_with_len 0 32)
     ∙ sym (largest_numbers h 32)
